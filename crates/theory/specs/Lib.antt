@@ -1,0 +1,3 @@
+pub mod Balance
+pub mod Sound
+pub mod Holds
