@@ -1,14 +1,14 @@
--- "When the index says no": the answers, each refusal alone, and their order.
+-- 01, "When the index says no": the answers, each refusal by itself, and the order in which they are tried.
 use Prim.Native.Nat.{ℕ}
-use mathlib.Core.Bool.{Bool, true, false}
-use mathlib.Core.List.{List, [], _∷_}
+use mathlib.Core.Bool.{Bool, false}
 use mathlib.Core.Option.{Option, none, some}
 use lib.Dec.{eqb, leb, ltb}
 use Rattle.model.specs.Branch.{choose}
-use Rattle.model.specs.Tree.{Side, lft, rgt, Tree, sameSide, slots}
+use Rattle.model.specs.Tree.{sameSide, slots}
 use Rattle.model.specs.Lent.{Arrays, Lent, capacity, keyOf, isLinked, treeOf}
 use Rattle.model.specs.Descent.{Entry, occupied, vacant, entryFor}
-use Rattle.model.specs.Commands.{Command, insert, orInsert, find, lowerBound, upperBound, remove, next, prev, insertAfter, insertBefore, replaceWith, clear, fieldsOf}
+use Rattle.model.specs.Commands.{Command, insert, orInsert, find, lowerBound, upperBound, remove, next, prev}
+use Rattle.model.specs.Commands.{insertAfter, insertBefore, replaceWith, clear, fieldsOf}
 use Rattle.model.specs.Order.{keepsOrder}
 
 pub data Code : Type 0 where
@@ -28,7 +28,7 @@ codeNumber badLength = 9
 codeNumber short = 10
 codeNumber badCode = 11
 
--- "Each answer has a code, a probe count and a slot."
+-- What a call says.
 pub record Answer : Type 0 where
   pub code : Code
   pub probes : ℕ
@@ -42,19 +42,18 @@ pub record Outcome : Type 0 where
 abbrev pub outcome : Code → (probes slot : ℕ) → Lent → Outcome
 outcome c n s m = record { answer = record { code = c; probes = n; slot = s }; after = m }
 
--- "On a refusal probes and slot are 0 and every lent number, and the root, is unchanged."
+-- A refusal answers two zeros beside its code, and every lent number is as it was.
 abbrev pub refused : Code → Lent → Outcome
 refused c m = outcome c 0 0 m
 
 -- ---- each refusal alone, on well-formed arrays; `done` where there is none
 
--- "8 BadRecord: .. a bound kind above 2"
+-- 8: there is no such kind of bound.
 unfoldable pub kindTest : (kind : Option ℕ) → Code
 kindTest none = done
 kindTest (some kind) = choose (leb kind 2) (λ _. done) (λ _. badRecord)
 
--- "2 BadSlot: a position above C", "6 NullCursor: remove or replace at position 0",
--- "4 NotLinked: the position is 1 to C and unlinked"
+-- 2: the position is past the last slot. 6: a node is needed and the position is 0. 4: nothing is linked there.
 unfoldable pub positionTest : (needed : Bool) → (position : Option ℕ) → Arrays → Code
 positionTest needed none a = done
 positionTest needed (some p) a =
@@ -62,7 +61,7 @@ positionTest needed (some p) a =
     choose (eqb p 0) (λ _. choose needed (λ _. nullCursor) (λ _. done)) λ _.
     choose (isLinked a p) (λ _. done) (λ _. notLinked)
 
--- "2 BadSlot: .. a new slot 0 or above C", "3 AlreadyLinked: the new slot is linked"
+-- 2: there is no such slot. 3: it is linked already.
 unfoldable pub slotTest : (slot : Option ℕ) → Arrays → Code
 slotTest none a = done
 slotTest (some s) a =
@@ -76,15 +75,15 @@ sameEntry (occupied x) (vacant p d) = false
 sameEntry (vacant p d) (occupied y) = false
 sameEntry (vacant p d) (vacant q e) = choose (eqb p q) (λ _. sameSide d e) (λ _. false)
 
--- "7 Stale: an entry is not what `entry` gives now for that key"
+-- 7: the entry is not the one that the key has now.
 unfoldable pub staleTest : Entry → (key : ℕ) → Lent → Code
 staleTest e k m = choose (sameEntry e (entryFor (keyOf (m .arrays)) k (treeOf m))) (λ _. done) (λ _. stale)
 
--- "5 OutOfOrder: the placed key would break W4": along the list after the command
+-- 5: with the key in its place the keys would no longer rise along the list.
 unfoldable pub placedTest : Command → Lent → Code
 placedTest c m = choose (keepsOrder (keyOf (m .arrays)) c (slots (treeOf m))) (λ _. done) (λ _. outOfOrder)
 
--- The descents of 1 and 2 end where the key fits.
+-- Operations 1 and 2 look for a place where the key fits, so only 9, 10 and 11 can be out of order.
 unfoldable pub orderTest : Command → Lent → Code
 orderTest (insert s k) m = done
 orderTest (orInsert s k) m = done
@@ -108,7 +107,8 @@ isDone c = eqb (codeNumber c) 0
 unfoldable pub thenTest : Code → (Unit {0} → Code) → Code
 thenTest c more = choose (isDone c) (λ _. more tt) (λ _. c)
 
--- "8, position (2, 6, 4), new slot (2, 3), 7, 5"; 7 has no place here: "In operation 2 the entry is fresh."
+-- The kind, the position, the new slot, the order: the first that fails is told. Operation 2 looks its entry up itself,
+-- so that one is never stale.
 unfoldable pub refusal : Command → Lent → Code
 refusal c m =
     thenTest (kindTest (fieldsOf c .kind)) λ _.
@@ -116,7 +116,7 @@ refusal c m =
     thenTest (slotTest (fieldsOf c .slot) (m .arrays)) λ _.
     orderTest c m
 
--- the same order for or_insert with an entry of its own: new slot (2, 3), 7
+-- or_insert with an entry at hand: the new slot, then whether the entry still holds.
 unfoldable pub entryRefusal : Entry → (slot key : ℕ) → Lent → Code
 entryRefusal e s k m = thenTest (slotTest (some s) (m .arrays)) λ _. staleTest e k m
 

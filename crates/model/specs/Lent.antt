@@ -1,21 +1,21 @@
--- "Slots and the lent arrays": the numbers that a caller lends, and how they are read.
+-- 01, "Slots and the lent arrays": the numbers that a caller lends, and how a slot is read from them.
 use Prim.Native.Nat.{ℕ, zero, suc, _-_, _*_, _+_, _/_, _%_, _≤_, _<_}
-use mathlib.Core.Bool.{Bool, true, false, not}
-use mathlib.Core.List.{List, [], _∷_}
+use mathlib.Core.Bool.{Bool, not}
+use mathlib.Core.List.{List}
 use lib.ListN.{getD, set, length, replicate}
-use lib.Dec.{eqb, leb}
+use lib.Dec.{eqb}
 use Rattle.model.specs.Branch.{choose}
 use Rattle.model.specs.Limits.{depthLimit}
 use Rattle.model.specs.Tree.{Side, lft, rgt, Color, red, black, Tree, leaf, node}
 
--- "four lent arrays: left, right, parent_color (32 bits each) and key (64 bits)"
+-- Four arrays: the two children, parent and colour in one number, and the key of each slot.
 pub record Arrays : Type 0 where
   pub left : List ℕ
   pub right : List ℕ
   pub pc : List ℕ
   pub key : List ℕ
 
--- "A root number goes with them."
+-- The arrays, and the number of the root beside them.
 pub record Lent : Type 0 where
   pub arrays : Arrays
   pub root : ℕ
@@ -26,11 +26,11 @@ arraysOf l r p k = record { left = l; right = r; pc = p; key = k }
 abbrev pub lent : List ℕ → List ℕ → List ℕ → List ℕ → ℕ → Lent
 lent l r p k t = record { arrays = arraysOf l r p k; root = t }
 
--- "Slots are numbered 1 to C, the capacity"
+-- C, the number of slots: they are counted from 1.
 unfoldable pub capacity : Arrays → ℕ
 capacity a = length (a .pc)
 
--- "Slot k is element k-1"
+-- The number of a slot in an array: the slots start at 1, the elements at 0.
 unfoldable pub at : List ℕ → ℕ → ℕ
 at l s = getD l (s - 1) 0
 
@@ -44,7 +44,7 @@ pcOf a s = at (a .pc) s
 unfoldable pub keyOf : Arrays → ℕ → ℕ
 keyOf a s = at (a .key) s
 
--- "parent_color = 2 × parent slot + colour, red 0, black 1"
+-- Parent and colour share a number, so no linked slot has 0 there: red counts 0, black 1.
 abbrev pub colorCode : Color → ℕ
 colorCode red = 0
 colorCode black = 1
@@ -58,7 +58,7 @@ parentOf a s = pcOf a s / 2
 unfoldable pub colorOf : Arrays → ℕ → Color
 colorOf a s = choose (eqb (pcOf a s % 2) 0) (λ _. red) (λ _. black)
 
--- "0 means unlinked"
+-- A slot from 1 to C with a number other than 0 in pc.
 pub record Linked (a : Arrays) (s : ℕ) : Type 0 where
   pub positive : 0 < s
   pub fits : s ≤ capacity a
@@ -67,7 +67,7 @@ pub record Linked (a : Arrays) (s : ℕ) : Type 0 where
 unfoldable pub isLinked : Arrays → ℕ → Bool
 isLinked a s = not (eqb (pcOf a s) 0)
 
--- the tree that the child numbers draw, down from a slot
+-- The tree that the child numbers spell, down from a slot, as far as the depth goes.
 unfoldable pub grow : ℕ → Arrays → ℕ → Tree
 grow zero a s = leaf
 grow (suc depth) a s =
@@ -77,10 +77,10 @@ grow (suc depth) a s =
 unfoldable pub treeOf : Lent → Tree
 treeOf m = grow depthLimit (m .arrays) (m .root)
 
--- the keys, once s has the key k
+-- The key array once the slot s has the key k.
 unfoldable pub keyed : (s k : ℕ) → Arrays → List ℕ
 keyed s k a = set (a .key) (s - 1) k
 
--- C unlinked slots with key 0
+-- A fresh start: C unlinked slots, all keys 0.
 unfoldable pub emptyLent : ℕ → Lent
 emptyLent C = lent (replicate C 0) (replicate C 0) (replicate C 0) (replicate C 0) 0

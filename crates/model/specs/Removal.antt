@@ -1,11 +1,12 @@
--- "Removal": the node is spliced out, and the missing black is made up for on the way up.
+-- 01, "Removal": a node is spliced out, and a black node that is then missing on a way is made up for.
 use Prim.Native.Nat.{ℕ}
 use mathlib.Core.Bool.{Bool, true, false, _||_}
 use mathlib.Core.List.{List, [], _∷_, _++_}
 use mathlib.Core.Option.{Option, none, some}
 use lib.Dec.{eqb}
 use Rattle.model.specs.Branch.{choose}
-use Rattle.model.specs.Tree.{Side, lft, rgt, Color, red, black, Tree, leaf, node, opp, nod, topOf, childTree, isRed, paint, paintChild, rotate, Frame, frame, plug}
+use Rattle.model.specs.Tree.{Side, lft, rgt, Color, red, black, Tree, leaf, node, opp, nod, topOf, childTree}
+use Rattle.model.specs.Tree.{isRed, paint, paintChild, rotate, Frame, frame, plug}
 
 -- ---- a node in its place
 pub record Focus : Type 0 where
@@ -48,17 +49,18 @@ abbrev pub firstOf : Color → Tree → ℕ → Tree → List Frame → Focus
 firstOf c leaf x r w = focusOn c leaf x r w
 firstOf c (node k a y b) x r w = firstOf k a y b (frame lft c x r ∷ w)
 
--- "If y is not the node, y takes its place, children and colour": y comes from inside the node's right child
+-- A node with two children: y, the first node of its right child, takes its place, children and colour. What is lost is
+-- y's own colour, and y's right child moves up where y was.
 abbrev pub moveUp : Focus → Color → (left : Tree) → List Frame → Splice
 moveUp y c l w = splice (y .color) (y .right) (y .way ++ frame rgt c (y .slot) l ∷ w)
 
--- "y is the node if it lacks a child, else its next. y's child, left first, or nothing, takes y's place"
+-- y is the node itself where a child is missing. Its other child, if there is one, moves up into its place.
 abbrev pub spliced : Color → Tree → ℕ → Tree → List Frame → Splice
 spliced c leaf x r w = splice c r w
 spliced c (node k a y b) x leaf w = splice c (node k a y b) w
 spliced c (node k a y b) x (node q d z e) w = moveUp (firstOf q d z e []) c (node k a y b) w
 
--- "this is the spliced tree"
+-- The tree after the splice, before anything is mended.
 unfoldable pub splicedTree : Splice → Tree
 splicedTree s = plug (s .child) (s .way)
 
@@ -66,22 +68,22 @@ splicedTree s = plug (s .child) (s .way)
 unfoldable pub redChild : (w : Tree) → Bool
 redChild w = isRed (childTree lft w) || isRed (childTree rgt w)
 
--- "if the outer child isn't red: inner child black, w red, rotate right at w, w becomes the new sibling"
+-- Where the outer child of w is not red, its red inner child is turned up in its place.
 unfoldable pub turnInner : (d : Side) → (w : Tree) → Tree
 turnInner d w =
     choose (isRed (childTree (opp d) w)) (λ _. w) (λ _. rotate (opp d) (paint red (paintChild d black w)))
 
--- "Then w takes q's colour, q and the outer child black, rotate left at q, end."
+-- w gets the colour of q, q and the outer child turn black, and q is turned down: every way has its black node back.
 unfoldable pub turnLast : (d : Side) → Color → (place : Tree) → (q : ℕ) → (w : Tree) → Tree
 turnLast d c t q w = rotate d (nod d black t q (paint c (paintChild (opp d) black w)))
 
--- "if q is root or red"
+-- q can take up the missing black by turning black itself, or the missing black falls away at the root.
 abbrev pub rootOrRed : Color → (above : List Frame) → Bool
 rootOrRed red up = true
 rootOrRed black [] = true
 rootOrRed black (f ∷ up) = false
 
--- "no red child of w: w red; if q is root or red, q black and end; else w becomes q's sibling, repeat. else .."
+-- A black sibling. With a red child it ends by rotations; else w turns red, and q takes the black or passes it on up.
 unfoldable pub belowBlack : (d : Side) → Color → (place : Tree) → (q : ℕ) → (w : Tree) → List Frame
     → (repeat : Tree → Tree) → Tree
 belowBlack d c t q w up repeat =
@@ -89,8 +91,8 @@ belowBlack d c t q w up repeat =
     choose (rootOrRed c up) (λ _. plug (nod d black t q (paint red w)) up) λ _.
     repeat (nod d c t q (paint red w))
 
--- "w red: w black, q red, rotate left at q, w becomes the new sibling; go on below": above the place are then q, red,
--- with w's inner child as the new sibling, and above q the old w, black. As q is red, nothing is repeated.
+-- A red sibling is turned up over q, which turns red. Above the place are then q, red, with the inner child of w as its
+-- new sibling, and above q the old w, black. As q is red, nothing is passed on.
 unfoldable pub belowRed : (d : Side) → (place : Tree) → (q : ℕ) → (w : Tree) → List Frame → Tree
 belowRed d t q w up =
     belowBlack d red t q (childTree d w) (frame d black (topOf w) (childTree (opp d) w) ∷ up) (λ t. t)
@@ -100,7 +102,7 @@ refill t [] = t
 refill t (frame d c q w ∷ up) =
     choose (isRed w) (λ _. belowRed d t q w up) (λ _. belowBlack d c t q w up (λ t. refill t up))
 
--- "If y was black and the tree is not empty: a child that moved up turns black. Otherwise .."
+-- A lost red node costs no way a black one. A child that moved up makes up for a black one by turning black itself.
 unfoldable pub mend : Color → (child : Tree) → List Frame → Tree
 mend red t w = plug t w
 mend black leaf w = refill leaf w
@@ -116,6 +118,6 @@ takeOut f = mendSplice (spliced (f .color) (f .left) (f .slot) (f .right) (f .wa
 unfoldable pub removed : (slot : ℕ) → Tree → Tree
 removed s t = atFocus (focus s t []) t takeOut
 
--- "the new slot takes links and colour"
+-- The new slot in the place of another, with its children and colour.
 unfoldable pub replaced : (position slot : ℕ) → Tree → Tree
 replaced p s t = atFocus (focus p t []) t λ f. plug (node (f .color) (f .left) s (f .right)) (f .way)

@@ -1,18 +1,28 @@
 -- To unfold `everything` is to unfold every definition of `model`: the proofs of this crate are computations. One bundle
 -- for each file.
 use Rattle.model.specs.Branch.{both}
-use Rattle.model.specs.Lent.{capacity, at, childOf, pcOf, keyOf, parentOf, colorOf, isLinked, grow, treeOf, keyed, emptyLent}
-use Rattle.model.specs.Check.{guard, andThen, differ, isSlot, namesRed, inspect, tidySlot, tidy, linkedCount, reachesAll, lengthsFit, check, redCheck, blackCheck}
+use Rattle.model.specs.Lent.{capacity, at, childOf, pcOf, keyOf, parentOf, colorOf, isLinked, grow, treeOf, keyed}
+use Rattle.model.specs.Lent.{emptyLent}
+use Rattle.model.specs.Check.{guard, andThen, differ, isSlot, namesRed, inspect, tidySlot, tidy, linkedCount}
+use Rattle.model.specs.Check.{reachesAll, lengthsFit, check, redCheck, blackCheck}
 use Rattle.model.specs.Draw.{sameCell, only, lay, draw}
 use Rattle.model.specs.Hanging.{straighten, turnOver, climb, hang, hungTree}
-use Rattle.model.specs.Removal.{splicedTree, redChild, turnInner, turnLast, belowBlack, belowRed, refill, mend, mendSplice, takeOut, removed, replaced}
-use Rattle.model.specs.Descent.{path, probes, insertStep, findStep, lowerStep, upperStep, insertLanding, lowerLanding, lowerSlot, upperLanding, upperSlot, findLanding, entryAt, entryOf, entryFor, findSlot}
+use Rattle.model.specs.Removal.{splicedTree, redChild, turnInner, turnLast, belowBlack, belowRed, refill, mend}
+use Rattle.model.specs.Removal.{mendSplice, takeOut, removed, replaced}
+use Rattle.model.specs.Descent.{path, probes, insertStep, findStep, lowerStep, upperStep, insertLanding, lowerLanding}
+use Rattle.model.specs.Descent.{lowerSlot, upperLanding, upperSlot, findLanding, entryAt, entryOf, entryFor, findSlot}
 use Rattle.model.specs.Order.{nextIn, prevIn, notBelow, notAbove, afterIn, beforeIn, listAfter, keyAfter, keepsOrder}
-use Rattle.model.specs.Answers.{kindTest, positionTest, slotTest, staleTest, placedTest, orderTest, thenTest, refusal, entryRefusal, unlessRefused}
-use Rattle.model.specs.Operations.{withTree, withPlaced, placeBeside, lacksChild, placeAfter, placeBefore, hangAt, enter, tell, accept, accepted, operate, perform, entryCall, orInsertCall, movedTo, moveNext, movePrev}
+use Rattle.model.specs.Answers.{kindTest, positionTest, slotTest, staleTest, placedTest, orderTest, thenTest, refusal}
+use Rattle.model.specs.Answers.{entryRefusal, unlessRefused}
+use Rattle.model.specs.Operations.{withTree, withPlaced, placeBeside, lacksChild, placeAfter, placeBefore, hangAt}
+use Rattle.model.specs.Operations.{enter, tell, accept, accepted, operate, perform, entryCall, orInsertCall, movedTo}
+use Rattle.model.specs.Operations.{moveNext, movePrev}
 use Rattle.model.specs.Ends.{endFrom, endOver}
-use Rattle.model.specs.Codes.{dropSpaces, stripEnd, trimmed, valueOf, placeValue, keyUpTo, isCode, readPart, readLine, lowered}
-use Rattle.model.specs.Batch.{field, recordOf, operations, commandOf, obey, answerBytes, joinRun, addAnswer, runRecords, filled, records, badLengthOf, isShort, batch, tailAnswer, batchSize, answerRoom, joinBatch, runBatches, program}
+use Rattle.model.specs.Codes.{dropSpaces, stripEnd, trimmed, valueOf, placeValue, keyUpTo, isCode, readPart, readLine}
+use Rattle.model.specs.Codes.{lowered}
+use Rattle.model.specs.Batch.{field, recordOf, operations, commandOf, obey, answerBytes, joinRun, addAnswer, runRecords}
+use Rattle.model.specs.Batch.{filled, records, badLengthOf, isShort, batch, tailAnswer, batchSize, answerRoom}
+use Rattle.model.specs.Batch.{joinBatch, runBatches, program}
 use Prim.Native.Nat.{ℕ}
 
 unfoldable pub inBranch : ℕ

@@ -1,5 +1,5 @@
 -- W5 and W6 of 01 as rules on a tree, and on the frames of a place: what hanging and removal keep.
-use Prim.Native.Nat.{ℕ, zero, suc, _+_, max}
+use Prim.Native.Nat.{ℕ, suc, _+_, max}
 use mathlib.Core.List.{List, [], _∷_}
 use mathlib.Core.Path.{_≡_}
 use Rattle.model.specs.Tree.{Color, red, black, Tree, leaf, node, Frame, frame}

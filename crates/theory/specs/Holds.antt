@@ -1,5 +1,5 @@
 -- The lent numbers as a tree: what well-formed arrays come down to, and what every later proof starts from.
-use Prim.Native.Nat.{ℕ, _≤_}
+use Prim.Native.Nat.{_≤_}
 use mathlib.Core.Path.{_≡_}
 use lib.ListN.{length}
 use Rattle.model.specs.Limits.{capacityLimit}
