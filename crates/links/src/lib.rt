@@ -1,0 +1,2 @@
+// The types that every crate shares.
+pub mod types;
