@@ -3,6 +3,7 @@
 use Prim.Native.Nat.{ℕ, _*_, _%_, _≤_, _<_}
 use mathlib.Core.Path.{_≡_}
 use mathlib.Core.Logic.{_≢_, _⊎_}
+use mathlib.Core.Bool.{Bool}
 use mathlib.Core.List.{List, [], _∷_}
 use mathlib.Core.Option.{Option, none, some}
 use lib.ListN.{length}
@@ -40,11 +41,11 @@ abbrev pub damagedRow : Lent → Row
 damagedRow m = row damaged (¬ WellFormed m)
 
 -- Codes 2, 6 and 4, for the position.
-abbrev pub positionRows : Command → Arrays → List Row → List Row
-positionRows c a rest =
-    row badSlot (Named (fieldsOf c .position) λ p. capacity a < p)
-    ∷ row nullCursor (Named (fieldsOf c .position) λ p. (p ≡ 0) × T (fieldsOf c .needsNode))
-    ∷ row notLinked (Named (fieldsOf c .position) λ p. (0 < p) × (p ≤ capacity a) × (¬ Linked a p))
+abbrev pub positionRows : (needsNode : Bool) → (position : Option ℕ) → Arrays → List Row → List Row
+positionRows needed position a rest =
+    row badSlot (Named position λ p. capacity a < p)
+    ∷ row nullCursor (Named position λ p. (p ≡ 0) × T needed)
+    ∷ row notLinked (Named position λ p. (0 < p) × (p ≤ capacity a) × (¬ Linked a p))
     ∷ rest
 
 -- Codes 2 and 3, for the new slot.
@@ -62,7 +63,8 @@ orderRow c m = row outOfOrder (Named (fieldsOf c .slot) λ s. ¬ W4 (accepted c 
 abbrev pub recordRows : Command → Lent → List Row
 recordRows c m =
     row badRecord (Named (fieldsOf c .kind) λ kind. 2 < kind)
-    ∷ positionRows c (m .arrays) (slotRows (fieldsOf c .slot) (m .arrays) (orderRow c m ∷ []))
+    ∷ positionRows (fieldsOf c .needsNode) (fieldsOf c .position) (m .arrays)
+    (slotRows (fieldsOf c .slot) (m .arrays) (orderRow c m ∷ []))
 
 -- A single call: first whether the arrays are well formed.
 abbrev pub singleRows : Command → Lent → List Row
