@@ -37,7 +37,9 @@ pub mod Levels
 pub mod Lists
 pub mod Marks
 pub mod Meaning
+pub mod Orderly
 pub mod Orders
+pub mod Placing
 pub mod Positions
 pub mod Refill
 pub mod Refusals

@@ -1,5 +1,6 @@
 pub mod After
 pub mod Balance
+pub mod Between
 pub mod Cells
 pub mod Checked
 pub mod Demands
