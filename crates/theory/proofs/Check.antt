@@ -4,25 +4,30 @@ use native.Mathlib.Omega.{arith}
 use mathlib.Core.Bool.{true, false}
 use mathlib.Core.Path.{_≡_, refl, ap}
 use borrow.Author.Tests.{eqb-true, eq-eqb, ne-eqb, leb-true, le-leb}
-use Rattle.model.specs.Limits.{capacityLimit, depthLimit}
+use Rattle.model.specs.Limits.{depthLimit}
 use Rattle.model.specs.Tree.{black, Tree}
-use Rattle.model.specs.Lent.{Arrays, Lent, capacity, pcOf}
-use Rattle.model.specs.WellFormed.{Lengths, WellFormed}
-use Rattle.model.specs.Check.{Verdict, bad, good, blackCheck, tidy, linkedCount, reachesAll, lengthsFit, check}
-use Rattle.theory.specs.Balance.{size}
-use Rattle.theory.specs.Sound.{count}
+use Rattle.model.specs.Lent.{Arrays, Lent, capacity, pcOf, treeOf}
+use Rattle.model.specs.WellFormed.{Lengths, W2, WellFormed}
+use Rattle.model.specs.Check.{Verdict, bad, good, blackCheck, linkedCount, reachesAll, lengthsFit, check}
+use Rattle.theory.specs.Balance.{tint, size}
+use Rattle.theory.specs.Sound.{count, Sound}
+use Rattle.theory.specs.Holds.{Holds}
 use Rattle.theory.specs.Hangs.{Hangs, Hung}
-use Rattle.theory.proofs.Totals.{total-le, total-same, sound-total, sound-size}
-use Rattle.theory.proofs.Shallow.{balanced-shallow}
+use Rattle.theory.specs.Checked.{Read}
+use Rattle.theory.specs.Totals.{oneIf}
+use Rattle.theory.proofs.Totals.{total-le, total-same, sound-total}
+use Rattle.theory.proofs.Hangs.{clear-of}
 use Rattle.theory.proofs.Levels.{hangs-linked, hangs-sound}
 use Rattle.theory.proofs.Well.{hung-linked, hung-well}
 use Rattle.theory.proofs.Grown.{well-hung}
+use Rattle.theory.proofs.Hung.{hung-holds, holds-hung}
+use Rattle.theory.proofs.Holds.{holds-height, well-holds}
 use Rattle.theory.proofs.Verdicts.{both-true, both-pass}
-use Rattle.theory.proofs.CheckSlots.{oneIf, linked-total, tidy-w2, w2-tidy}
+use Rattle.theory.proofs.CheckSlots.{linked-total, tidy-w2, w2-tidy}
 use Rattle.theory.proofs.CheckReads.{check-read}
 use Rattle.theory.proofs.CheckFinds.{check-finds}
 
--- W1's lengths
+-- the lengths of W1, as a test and as a fact
 pub fit-lengths : (a : Arrays) → lengthsFit a ≡ true → Lengths a
 unfolding lengthsFit
 fit-lengths a e =
@@ -58,88 +63,95 @@ module _ (m : Lent) (t : Tree) (h : Hangs (m .arrays) 0 (m .root) t) where
           let k = hangs-linked (m .arrays) 0 (m .root) t s h (omega arith) in
           rw (ne-eqb (pcOf (m .arrays) s) 0 (omega (arith, k .marked))) (hangs-sound (m .arrays) (m .root) t h .once s)
 
-  -- as many nodes as linked slots: the slots outside the tree aren't linked
+  -- where there are as many nodes as linked slots, the others aren't linked
   outside : size t ≡ linkedCount (m .arrays .pc) →
       (s : ℕ) → 0 < s → s ≤ capacity (m .arrays) → count t s ≡ 0 → pcOf (m .arrays) s ≡ 0
   outside e s low high none =
-      marked (pcOf (m .arrays) s)
-      (total-same (capacity (m .arrays)) 1 (count t) (λ i. oneIf (pcOf (m .arrays) i)) (λ i low high. count-linked i)
-      (omega (arith, sound-total (hangs-sound (m .arrays) (m .root) t h), linked-total (m .arrays))) s low (omega arith))
+      let sum = sound-total (hangs-sound (m .arrays) (m .root) t h) in
+      let same = total-same (capacity (m .arrays)) 1 (count t) (λ i. oneIf (pcOf (m .arrays) i)) in
+      unmarked (pcOf (m .arrays) s)
+      (same (λ i low high. count-linked i) (omega (arith, sum, linked-total (m .arrays))) s low (omega arith))
     where
-      marked : (v : ℕ) → count t s ≡ oneIf v → v ≡ 0
-      marked zero e = refl
-      marked (suc v) e =
+      unmarked : (v : ℕ) → count t s ≡ oneIf v → v ≡ 0
+      unmarked zero e = refl
+      unmarked (suc v) e =
           let z : count t s ≡ 1 = rw (ne-eqb (suc v) 0 (omega arith)) at e in
           absurd (omega arith)
 
--- a tree that hangs in the arrays, where the check accepts
+-- what the check has read is the tree of the arrays
+read-hung : {m : Lent} {t : Tree} {b k : ℕ} → Lengths (m .arrays) → W2 (m .arrays) → tint t ≡ black →
+    Read (m .arrays) 0 (m .root) 0 b (linkedCount (m .arrays .pc)) k t → Hung m t
+read-hung {m} {t} lengths w2 top read = record {
+  lengths = lengths;
+  hangs = read .hangs;
+  rest = λ s low high none.
+      let e = outside m t (read .hangs) (read .nodes) s low high none in
+      clear-of (m .arrays) s (w2 s low high e) e;
+  balanced = record { calm = read .calm; even = read .even; top = top };
+  rising = read .rising;
+}
+
+-- where the check accepts, a tree hangs and nothing else does
 pub check-hung : (m : Lent) → check m ≡ true → (t : Tree) × Hung m t
 unfolding check
 check-hung m e =
     both-true _ _ e λ fit e₁.
-    both-true _ _ e₁ λ tidy all.
-    go (fit-lengths (m .arrays) fit) tidy (reaches _ _ all)
-  where
-    go : Lengths (m .arrays) → tidy (m .arrays .left) (m .arrays .right) (m .arrays .pc) ≡ true →
-        (b : ℕ) × (k : ℕ) × (blackCheck depthLimit (m .arrays) 0 (m .root) 0 ≡ good b (linkedCount (m .arrays .pc)) k) →
-        (t : Tree) × Hung m t
-    go lengths tidied found =
-        let w2 = tidy-w2 (m .arrays) lengths tidied in
-        let x = check-read (m .arrays) black depthLimit 0 (m .root) 0 (found .0) (linkedCount (m .arrays .pc)) (found .1)
-        (omega arith) (found .2) in
-        let read = x .2 in (
-          x .0,
-          record {
-            lengths = lengths;
-            hangs = read .hangs;
-            rest = λ s low high none.
-                let e = outside m (x .0) (read .hangs) (read .nodes) s low high none in
-                let k = w2 s low high e in
-                record { left = k .0; right = k .1; pc = e };
-            balanced = record { calm = read .calm; even = read .even; top = x .1 };
-            rising = read .rising;
-          },
-        )
+    both-true _ _ e₁ λ tidied all.
+    let lengths = fit-lengths (m .arrays) fit in
+    let good = reaches _ _ all in
+    let found = check-read (m .arrays) black depthLimit 0 (m .root) 0 _ _ _ (omega arith) (good .2) in
+    (found .0, read-hung lengths (tidy-w2 (m .arrays) lengths tidied) (found .1) (found .2))
 
 module _ (m : Lent) (t : Tree) (h : Hung m t) where
+  sound : Sound (capacity (m .arrays)) t
+  sound = hangs-sound (m .arrays) (m .root) t (h .hangs)
+
+  linked-count : (s : ℕ) → 0 < s → s ≤ capacity (m .arrays) → oneIf (pcOf (m .arrays) s) ≤ count t s
+  linked-count s low high = go (pcOf (m .arrays) s) refl
+    where
+      go : (v : ℕ) → pcOf (m .arrays) s ≡ v → oneIf v ≤ count t s
+      go zero e = omega arith
+      go (suc v) e =
+          rw (ne-eqb (suc v) 0 (omega arith))
+          (hung-linked m t h s (record { positive = low; fits = high; marked = omega arith }))
+
+  -- there are as many nodes as linked slots
   hung-size : size t ≡ linkedCount (m .arrays .pc)
   hung-size =
       let C = capacity (m .arrays) in
-      let up = total-le C 1 (count t) (λ s. oneIf (pcOf (m .arrays) s)) (λ s low high. count-linked m t (h .hangs) s) in
-      let down = total-le C 1 (λ s. oneIf (pcOf (m .arrays) s)) (count t) (λ s low high. linked s low (omega arith)) in
-      omega (arith, sound-total (hangs-sound (m .arrays) (m .root) t (h .hangs)), linked-total (m .arrays))
-    where
-      linked : (s : ℕ) → 0 < s → s ≤ capacity (m .arrays) → oneIf (pcOf (m .arrays) s) ≤ count t s
-      linked s low high = go (pcOf (m .arrays) s) refl
-        where
-          go : (v : ℕ) → pcOf (m .arrays) s ≡ v → oneIf v ≤ count t s
-          go zero e = omega arith
-          go (suc v) e =
-              rw (ne-eqb (suc v) 0 (omega arith))
-              (hung-linked m t h s (record { positive = low; fits = high; marked = omega arith }))
+      let mark : ℕ → ℕ = λ s. oneIf (pcOf (m .arrays) s) in
+      let up = total-le C 1 (count t) mark (λ s low high. count-linked m t (h .hangs) s) in
+      let down = total-le C 1 mark (count t) (λ s low high. linked-count s low (omega arith)) in
+      omega (arith, sound-total sound, linked-total (m .arrays))
 
   hung-reaches : reachesAll (blackCheck depthLimit (m .arrays) 0 (m .root) 0) (linkedCount (m .arrays .pc)) ≡ true
   unfolding reachesAll
   hung-reaches =
-      let small : size t ≤ capacityLimit =
-      omega (arith, sound-size (hangs-sound (m .arrays) (m .root) t (h .hangs)), h .lengths .small) in
-      let found = check-finds (m .arrays) depthLimit 0 (m .root) 0 t (h .hangs) (h .balanced .calm) (h .balanced .even)
-      (h .rising) (balanced-shallow (h .balanced) small) in
+      let finds = check-finds (m .arrays) depthLimit 0 (m .root) 0 t (h .hangs) in
+      let found = finds (h .balanced .calm) (h .balanced .even) (h .rising) (holds-height (hung-holds h)) in
       rw (rw (h .balanced .top) at found) (eq-eqb (size t) (linkedCount (m .arrays .pc)) hung-size)
 
--- the check accepts where a tree hangs and nothing else does
+-- and where a tree hangs and nothing else does, it accepts
 pub hung-check : {m : Lent} {t : Tree} → Hung m t → check m ≡ true
 unfolding check
 hung-check {m} {t} h =
     both-pass _ _ (lengths-fit (m .arrays) (h .lengths))
     (both-pass _ _ (w2-tidy (m .arrays) (hung-well h .w2)) (hung-reaches m t h))
 
--- W1 to W6 hold exactly where the check accepts
+-- W1 to W6 hold where the check accepts
 pub check-sound : (m : Lent) → check m ≡ true → WellFormed m
 check-sound m e = hung-well (check-hung m e .1)
 
+-- and nowhere else
 pub check-complete : (m : Lent) → WellFormed m → check m ≡ true
 check-complete m w = hung-check (well-hung w)
 
 pub check-false : (m : Lent) → check m ≡ false → ¬ WellFormed m
 check-false m e w = let z : _≡_ {A = ℕ} 0 1 = cc (check-complete m w) in omega arith
+
+-- the arrays that it accepts are those that hold a tree
+pub check-holds : (m : Lent) → check m ≡ true → Holds m (treeOf m)
+check-holds m e = well-holds m (check-sound m e)
+
+pub holds-check : {m : Lent} {t : Tree} → Holds m t → check m ≡ true
+holds-check h = hung-check (holds-hung h)

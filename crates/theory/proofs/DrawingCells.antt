@@ -10,7 +10,8 @@ use Rattle.model.specs.Tree.{Side, lft, rgt, Color, Tree, leaf, node, on, topOf
 use Rattle.model.specs.Lent.{parentColor}
 use Rattle.model.specs.Draw.{Cell, childCell, pcCell, sameCell, only, written}
 use Rattle.theory.specs.Sound.{one, count}
-use Rattle.theory.specs.Cells.{slotOf}
+use Rattle.theory.specs.Cells.{slotOf, ownNumber}
+use Rattle.theory.proofs.Counts.{one-same}
 
 no-pick : (t : Bool) (v : ℕ) → pick {A = ℕ} t 1 0 ≡ 0 → pick t v 0 ≡ 0
 no-pick true v e = absurd (omega arith)
@@ -41,11 +42,6 @@ written-none above (node c l x r) b e =
       written-none x r b (omega arith),
     )
 
--- what the top writes for itself
-abbrev pub ownNumber : (above : ℕ) (c : Color) (l r : Tree) → Cell → ℕ
-ownNumber above c l r (childCell d s) = topOf (on d l r)
-ownNumber above c l r (pcCell s) = parentColor above c
-
 own-only : (above : ℕ) (c : Color) (l : Tree) (x : ℕ) (r : Tree) (b : Cell) → x ≡ slotOf b →
     only (childCell lft x) b (topOf l) + (only (childCell rgt x) b (topOf r) + only (pcCell x) b (parentColor above c))
     ≡ ownNumber above c l r b
@@ -56,14 +52,15 @@ own-only above c l x r (pcCell s) e = rw (eq-eqb x s e) (omega arith)
 
 module _ (above : ℕ) (c : Color) (l : Tree) (x : ℕ) (r : Tree) (b : Cell) where
   -- at its own slot
-  pub written-top : x ≡ slotOf b → count l x ≡ 0 → count r x ≡ 0 →
+  pub written-top : x ≡ slotOf b → count (node c l x r) (slotOf b) ≤ 1 →
       written above (node c l x r) b ≡ ownNumber above c l r b
-  written-top e left right =
+  written-top e once =
+      let here : one x (slotOf b) ≡ 1 = ap (one x) (sym e) ∙ one-same x in
       omega (
         arith,
         own-only above c l x r b e,
-        written-none x l b (ap (count l) (sym e) ∙ left),
-        written-none x r b (ap (count r) (sym e) ∙ right),
+        written-none x l b (omega arith),
+        written-none x r b (omega arith),
       )
 
   -- at a slot that stands on one side below

@@ -11,6 +11,7 @@ use Rattle.model.specs.Lent.{at, capacity, childOf, pcOf}
 use Rattle.model.specs.Draw.{Cell, childCell, pcCell, written, listed, lay, draw}
 use Rattle.theory.specs.Cells.{slotOf, numberAt}
 
+-- how long such a list is
 pub length-listed : (C s : ℕ) (f : ℕ → ℕ) → length (listed C s f) ≡ C
 length-listed zero s f = refl
 length-listed (suc C) s f = ap suc (length-listed C (suc s) f)

@@ -7,11 +7,12 @@ use Rattle.model.specs.Lent.{Arrays, capacity, childOf, pcOf, parentColor}
 use Rattle.model.specs.Draw.{Cell, childCell, pcCell, written}
 use Rattle.theory.specs.Balance.{tint}
 use Rattle.theory.specs.Sound.{count, Sound}
-use Rattle.theory.specs.Cells.{slotOf, numberAt}
+use Rattle.theory.specs.Cells.{slotOf, numberAt, ownNumber}
 use Rattle.theory.specs.Hangs.{Hangs}
-use Rattle.theory.proofs.Counting.{one-same, count-side, count-cases, sound-side, tops-differ}
+use Rattle.theory.proofs.Counts.{one-same}
+use Rattle.theory.proofs.Nodes.{count-side, count-cases, sound-side, tops-differ}
 use Rattle.theory.proofs.Hangs.{hangs-top}
-use Rattle.theory.proofs.DrawingCells.{ownNumber, written-top, written-side}
+use Rattle.theory.proofs.DrawingCells.{written-top, written-side}
 
 module _ (a : Arrays) where
   own-number : (p s : ℕ) (c : Color) (l : Tree) (x : ℕ) (r : Tree) (b : Cell) → x ≡ slotOf b →
@@ -25,9 +26,8 @@ module _ (a : Arrays) where
       (b : Cell) → 1 ≤ count t (slotOf b) → numberAt a b ≡ written p t b
   hangs-written p s leaf h once b k = absurd (omega arith)
   hangs-written p s (node c l x r) h once b k =
-      count-cases c l x r (slotOf b) (numberAt a b ≡ written p (node c l x r) b) k
-      (λ e. own-number p s c l x r b e h
-      ∙ sym (written-top p c l x r b e (omega (arith, once x, one-same x)) (omega (arith, once x, one-same x))))
+      count-cases c l x r (slotOf b) k
+      (λ e. own-number p s c l x r b e h ∙ sym (written-top p c l x r b e (once (slotOf b))))
       (λ k. hangs-written x (childOf lft a x) l (h .1) (λ y. omega (arith, once y)) b k
       ∙ sym (written-side p c l x r b lft k (once (slotOf b))))
       (λ k. hangs-written x (childOf rgt a x) r (h .2) (λ y. omega (arith, once y)) b k
@@ -55,9 +55,7 @@ module _ (a : Arrays) where
       positive = sound .low x here
 
       own : (b : Cell) → x ≡ slotOf b → numberAt a b ≡ ownNumber p c l r b
-      own b e =
-          each b (rw (← e) here)
-          ∙ written-top p c l x r b e (omega (arith, sound .once x, one-same x)) (omega (arith, sound .once x, one-same x))
+      own b e = each b (rw (← e) here) ∙ written-top p c l x r b e (sound .once (slotOf b))
 
       marked : pcOf a x ≡ parentColor p c
       marked = own (pcCell x) refl
@@ -67,4 +65,5 @@ module _ (a : Arrays) where
 
       below : (d : Side) (b : Cell) → 1 ≤ count (on d l r) (slotOf b) → numberAt a b ≡ written x (on d l r) b
       below d b k =
-          each b (omega (arith, count-side d c l x r (slotOf b))) ∙ written-side p c l x r b d k (sound .once (slotOf b))
+          each b (omega (arith, count-side d c l x r (slotOf b)))
+          ∙ written-side p c l x r b d k (sound .once (slotOf b))

@@ -11,10 +11,12 @@ use Rattle.model.specs.WellFormed.{WellFormed}
 use Rattle.model.specs.Check.{check}
 use Rattle.theory.specs.Holds.{Holds}
 use Rattle.theory.specs.Hangs.{Clear, Hung}
+use Rattle.theory.proofs.Hangs.{clear-of}
 use Rattle.theory.proofs.Hung.{hung-holds}
 use Rattle.theory.proofs.Well.{hung-well}
 use Rattle.theory.proofs.Check.{hung-check}
 
+-- they have as many slots as asked for
 pub empty-capacity : (C : ℕ) → capacity (emptyLent C .arrays) ≡ C
 unfolding emptyLent capacity
 empty-capacity C = length-replicate C 0
@@ -25,7 +27,7 @@ at-empty C s low high = getD-replicate C (s - 1) 0 0 (omega arith)
 
 empty-clear : (C s : ℕ) → 0 < s → s ≤ C → Clear (emptyLent C .arrays) s
 unfolding emptyLent childOf pcOf
-empty-clear C s low high = let e = at-empty C s low high in record { left = e; right = e; pc = e }
+empty-clear C s low high = let e = at-empty C s low high in clear-of (emptyLent C .arrays) s (e, e) e
 
 empty-hung : (C : ℕ) → C ≤ capacityLimit → Hung (emptyLent C) leaf
 unfolding emptyLent capacity
@@ -37,6 +39,7 @@ empty-hung C small = record {
   rising = tt;
 }
 
+-- they hold the empty tree, W1 to W6 hold, and the check accepts
 pub empty-holds : (C : ℕ) → C ≤ capacityLimit → Holds (emptyLent C) leaf
 empty-holds C small = hung-holds (empty-hung C small)
 

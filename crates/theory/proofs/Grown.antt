@@ -2,21 +2,23 @@
 use Prim.Native.Nat.{ℕ, zero, suc, _+_, _≤_, _<_}
 use native.Mathlib.Omega.{arith}
 use native.Mathlib.Decide.{ℕ-discrete}
-use mathlib.Core.List.{[]}
 use mathlib.Core.Logic.{_≢_}
 use mathlib.Core.Path.{_≡_, refl, sym, _∙_}
 use borrow.Author.Tests.{eq-eqb, ne-eqb}
-use Rattle.model.specs.Tree.{Side, lft, rgt, black, Tree, leaf, node, on, slots, above}
+use Rattle.model.specs.Tree.{Side, lft, rgt, black, Tree, leaf, node, nod, slots, above}
 use Rattle.model.specs.Lent.{Arrays, Lent, Linked, capacity, childOf, pcOf, parentOf, colorOf, parentColor, grow}
 use Rattle.model.specs.WellFormed.{ChildOf, Reached, at-root, by-child, WellFormed}
 use Rattle.theory.specs.Balance.{tint, Calm, size}
 use Rattle.theory.specs.Sound.{count, Sound}
 use Rattle.theory.specs.Hangs.{Here, Hangs, Clear, Level, Hung}
-use Rattle.theory.proofs.Counting.{one-same, one-split, count-side, count-plug, count-cases, locate}
+use Rattle.theory.proofs.Counts.{one-same, by-slot, count-nod, count-plug}
+use Rattle.theory.proofs.Lists.{count-member}
+use Rattle.theory.proofs.Focus.{standing}
+use Rattle.theory.proofs.Nodes.{count-cases}
 use Rattle.theory.proofs.Totals.{sound-size}
 use Rattle.theory.proofs.Calm.{allowed}
 use Rattle.theory.proofs.Marks.{marked-color, mark-is}
-use Rattle.theory.proofs.Hangs.{hangs-below, hangs-color, hangs-place, top-count}
+use Rattle.theory.proofs.Hangs.{clear-of, hangs-near, hangs-color, hangs-place, top-count}
 use Rattle.theory.proofs.Levels.{level-one}
 use Rattle.theory.proofs.Walks.{walk-of, ways-even}
 
@@ -24,11 +26,12 @@ black-marked : (a : Arrays) (s : ℕ) → colorOf a s ≡ black → 0 < pcOf a s
 black-marked a s e = let z : pcOf a s ≡ parentColor (parentOf a s) black = rw e at (mark-is a s) in omega arith
 
 module _ (m : Lent) (w : WellFormed m) where
+  -- the root, as a child number of 0
   root-child : ChildOf (m .arrays) 0 (m .root)
-  root-child some = (
-    record { positive = omega arith; fits = w .w1 .root; marked = black-marked (m .arrays) (m .root) (w .w3 .root some .0) },
-    w .w3 .root some .1,
-  )
+  root-child some =
+      let root = w .w3 .root some in
+      let marked = black-marked (m .arrays) (m .root) (root .0) in
+      (record { positive = omega arith; fits = w .w1 .root; marked = marked }, root .1)
 
   -- The parent steps from a slot meet so many different linked slots: `above` has them, one below the other.
   record Chain (s : ℕ) : Type 0 where
@@ -39,6 +42,7 @@ module _ (m : Lent) (w : WellFormed m) where
     each : (x : ℕ) → 1 ≤ count above x → Linked (m .arrays) x × ((k : ℕ) × (k ≤ rank) × Level (m .arrays) k x)
     once : (x : ℕ) → count above x ≤ 1
 
+  -- one for every slot that is reached
   chain-start : Chain 0
   chain-start = record
       { rank = 0; level = refl; above = leaf; many = refl; each = λ x k. absurd (omega arith); once = λ x. omega arith }
@@ -50,11 +54,14 @@ module _ (m : Lent) (w : WellFormed m) where
     above = node black leaf s (c .above);
     many = omega (arith, c .many);
     each = λ x i.
-        count-cases black leaf s (c .above) x _ i (λ z. rw (← z) (k, (suc (c .rank), omega arith, level)))
-        (λ j. absurd (omega arith)) (λ j. let q = c .each x j in (q .0, (q .1 .0, omega (arith, q .1 .1), q .1 .2)));
+        count-cases black leaf s (c .above) x i
+        (λ z. rw (← z) (k, (suc (c .rank), omega arith, level)))
+        (λ j. absurd (omega arith))
+        (λ j. let q = c .each x j in (q .0, (q .1 .0, omega (arith, q .1 .1), q .1 .2)));
     once = λ x.
-        one-split s x (count (node black leaf s (c .above)) x ≤ 1) (λ z. omega (arith, c .once x))
-        (λ z. rw (← z) (omega (arith, one-same s, fresh (count (c .above) s) refl)));
+        by-slot s x
+        (λ z. rw (← z) (omega (arith, one-same s, fresh (count (c .above) s) refl)))
+        (λ z. omega (arith, c .once x));
   }
     where
       level : Level (m .arrays) (suc (c .rank)) s
@@ -77,13 +84,18 @@ module _ (m : Lent) (w : WellFormed m) where
       let c = chain r in
       chain-child p (childOf d (m .arrays) p) s (w .w3 .child d p (c .0)) (c .1) some e
 
+  -- it is no longer than there are slots
   chain-fits : {s : ℕ} (c : Chain s) → c .rank ≤ capacity (m .arrays)
   chain-fits c =
-      let sound : Sound (capacity (m .arrays)) (c .above) = record
-      { once = c .once; low = λ x k. c .each x k .0 .positive; high = λ x k. c .each x k .0 .fits } in
+      let sound : Sound (capacity (m .arrays)) (c .above) = record {
+        once = c .once;
+        low = λ x k. c .each x k .0 .positive;
+        high = λ x k. c .each x k .0 .fits;
+      } in
       omega (arith, sound-size sound, c .many)
 
-  here-is : (p s : ℕ) → Linked (m .arrays) s → parentOf (m .arrays) s ≡ p → Here (m .arrays) p s (colorOf (m .arrays) s) s
+  here-is : (p s : ℕ) → Linked (m .arrays) s → parentOf (m .arrays) s ≡ p →
+      Here (m .arrays) p s (colorOf (m .arrays) s) s
   here-is p s k e = record {
     same = refl;
     linked = k;
@@ -105,9 +117,9 @@ module _ (m : Lent) (w : WellFormed m) where
           let level : Level (m .arrays) (suc n) s = (omega arith, rw (child e .1) v) in
           absurd (omega (arith, chain-fits c, level-one (m .arrays) (suc n) (c .rank) s level (c .level)))
   grown (suc depth) n p s v child reach deep =
-      go (ℕ-discrete s 0)
-      (λ d k level r. grown depth (suc n) s (childOf d (m .arrays) s) level (w .w3 .child d s k)
-      (λ some. by-child d s r (omega arith) refl) (omega arith))
+      go (ℕ-discrete s 0) λ d k level r.
+      grown depth (suc n) s (childOf d (m .arrays) s) level (w .w3 .child d s k)
+      (λ some. by-child d s r (omega arith) refl) (omega arith)
     where
       go : Dec (s ≡ 0) →
           ((d : Side) → Linked (m .arrays) s → Level (m .arrays) (suc n) s → Reached (m .arrays) (m .root) s →
@@ -117,8 +129,11 @@ module _ (m : Lent) (w : WellFormed m) where
       go (no e) below =
           let k = child e in
           let level : Level (m .arrays) (suc n) s = (omega arith, rw (k .1) v) in
-          rw (ne-eqb s 0 e) (here-is p s (k .0) (k .1), below lft (k .0) level (reach e), below rgt (k .0) level (reach e))
+          let left = below lft (k .0) level (reach e) in
+          let right = below rgt (k .0) level (reach e) in
+          rw (ne-eqb s 0 e) (here-is p s (k .0) (k .1), left, right)
 
+  -- W5 and the black root, on the tree
   black-top : (p s : ℕ) (t : Tree) → Hangs (m .arrays) p s t → (s ≢ 0 → colorOf (m .arrays) s ≡ black) → tint t ≡ black
   black-top p s leaf h f = refl
   black-top p s (node c l x r) h f =
@@ -138,23 +153,26 @@ module _ (m : Lent) (w : WellFormed m) where
       top = marked-color (m .arrays) x p c (h .0 .marked)
 
   module _ (t : Tree) (h : Hangs (m .arrays) 0 (m .root) t) where
+    -- what is reached stands in the tree, and what isn't is clear
     counted : {s : ℕ} → Reached (m .arrays) (m .root) s → 1 ≤ count t s
     counted {s} (at-root some e) = top-count (m .arrays) 0 s t (rw e h) some
     counted {s} (by-child d p r some e) =
-        let q = locate t [] p (counted r) in
-        let u = node (q .color) (q .left) p (q .right) in
-        let below = hangs-below (m .arrays) d (above (q .way)) p (q .color) (q .left) p (q .right)
-        (hangs-place (m .arrays) (m .root) u (q .way) (rw (q .is) at h)) in
-        let here : 1 ≤ count (on d (q .left) (q .right)) s = top-count (m .arrays) p s (on d (q .left) (q .right)) (rw e below) some in
-        rw (q .is) (omega (arith, here, count-plug u (q .way) s, count-side d (q .color) (q .left) p (q .right) s))
+        let q = standing d p t (count-member t p (counted r)) in
+        let u = nod d (q .color) (q .near) p (q .far) in
+        let hangs = hangs-place (m .arrays) (m .root) u (q .way) (rw (q .whole) h) in
+        let below = hangs-near (m .arrays) d (above (q .way)) p (q .color) (q .near) p (q .far) hangs in
+        let here = top-count (m .arrays) p s (q .near) (rw e below) some in
+        let up = count-nod d (q .color) (q .near) p (q .far) s in
+        rw (← (q .whole)) (omega (arith, here, count-plug u (q .way) s))
 
     rest : (s : ℕ) → 0 < s → s ≤ capacity (m .arrays) → count t s ≡ 0 → Clear (m .arrays) s
     rest s low high e = go (pcOf (m .arrays) s) refl
       where
         go : (n : ℕ) → pcOf (m .arrays) s ≡ n → Clear (m .arrays) s
-        go zero f = let k = w .w2 s low high f in record { left = k .0; right = k .1; pc = f }
+        go zero f = clear-of (m .arrays) s (w .w2 s low high f) f
         go (suc n) f =
-            absurd (omega (arith, counted (w .w3 .reached s (record { positive = low; fits = high; marked = omega arith }))))
+            let k : Linked (m .arrays) s = record { positive = low; fits = high; marked = omega arith } in
+            absurd (omega (arith, counted (w .w3 .reached s k)))
 
 -- the tree that the child numbers draw, however deep
 pub well-hung : {m : Lent} → WellFormed m → Hung m (grow (capacity (m .arrays)) (m .arrays) (m .root))
@@ -175,4 +193,5 @@ well-hung {m} w = record {
 
     hangs : Hangs (m .arrays) 0 (m .root) t
     hangs =
-        grown m w (capacity (m .arrays)) 0 0 (m .root) refl (root-child m w) (λ some. at-root (omega arith) refl) (omega arith)
+        grown m w (capacity (m .arrays)) 0 0 (m .root) refl (root-child m w)
+        (λ some. at-root (omega arith) refl) (omega arith)

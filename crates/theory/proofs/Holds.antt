@@ -16,7 +16,7 @@ use Rattle.theory.specs.Holds.{Holds}
 use Rattle.theory.specs.Hangs.{Hangs}
 use Rattle.theory.proofs.Totals.{sound-size}
 use Rattle.theory.proofs.Marks.{marked-color}
-use Rattle.theory.proofs.Shallow.{balanced-shallow}
+use Rattle.theory.proofs.Height.{size-slots, height-limit}
 use Rattle.theory.proofs.DrawingLists.{draw-capacity}
 use Rattle.theory.proofs.Hung.{hung-holds, holds-hung}
 use Rattle.theory.proofs.Well.{hung-well}
@@ -39,16 +39,19 @@ grow-is a (suc depth) p s (node c l x r) h deep =
 
 -- a tree that is held is no deeper than the limit
 pub holds-height : {m : Lent} {t : Tree} → Holds m t → height t ≤ depthLimit
-holds-height {m} {t} h = balanced-shallow (h .balanced) (omega (arith, sound-size (h .sound), h .small))
+holds-height {m} {t} h =
+    height-limit t (h .balanced) (omega (arith, size-slots t, sound-size (h .sound), h .small))
 
--- there is exactly one tree
+-- the tree that is held is the one that is read, so there is no other
 pub holds-tree : {m : Lent} {t : Tree} → Holds m t → treeOf m ≡ t
 unfolding treeOf
 holds-tree {m} {t} h = grow-is (m .arrays) depthLimit 0 (m .root) t (holds-hung h .hangs) (holds-height h)
 
+-- well-formed arrays hold the tree that is read from them
 pub well-holds : (m : Lent) → WellFormed m → Holds m (treeOf m)
 well-holds m w = let h = hung-holds (well-hung w) in subst (λ (t : Tree). Holds m t) (sym (holds-tree h)) h
 
+-- and arrays that hold a tree are well formed
 pub holds-well : {m : Lent} {t : Tree} → Holds m t → WellFormed m
 holds-well h = hung-well (holds-hung h)
 

@@ -3,39 +3,42 @@ use Prim.Native.Nat.{ℕ, _≤_, _<_}
 use native.Mathlib.Omega.{arith}
 use native.Mathlib.Decide.{decLe}
 use mathlib.Core.Bool.{Bool, true, false}
-use mathlib.Core.List.{List, _∷_, List·Memᴰ, List·Memᴰ·head, List·Memᴰ·tail, List·Memᴰ·not-nil, List·Memᴰ·cases-cons}
-use mathlib.Core.List.{List·Memᴰ·append-cases, Memᴰ·append-left, Memᴰ·append-right}
-use mathlib.Core.Logic.{_⊎_, inl, inr, ⊎-elim}
+use mathlib.Core.List.{List, List·Memᴰ}
 use mathlib.Core.Path.{_≡_, refl, sym, _∙_}
 use lib.Dec.{eqb}
 use lib.ListN.{List·getD-eq-default}
 use borrow.Author.Tests.{eqb-false, eq-eqb, ne-eqb, not-true}
-use Rattle.model.specs.Tree.{Side, Color, Tree, leaf, node, on, topOf, slots, Frame, plug, above}
+use Rattle.model.specs.Tree.{Side, Color, Tree, node, on, topOf, slots, Frame, plug, above}
 use Rattle.model.specs.Lent.{Arrays, Lent, Linked, at, capacity, childOf, pcOf, parentOf, colorOf, parentColor}
 use Rattle.model.specs.Lent.{isLinked}
 use Rattle.theory.specs.Sound.{count}
 use Rattle.theory.specs.Holds.{Holds}
 use Rattle.theory.specs.Hangs.{Hangs, Clear}
-use Rattle.theory.proofs.Counting.{one-same, count-cases}
+use Rattle.theory.proofs.Lists.{count-member, member-count}
 use Rattle.theory.proofs.Marks.{marked-parent, marked-color}
 use Rattle.theory.proofs.Hangs.{hangs-top, hangs-below, hangs-place}
 use Rattle.theory.proofs.Levels.{hangs-linked}
 use Rattle.theory.proofs.Hung.{holds-hung}
 use Rattle.theory.proofs.Well.{hung-linked}
 
--- ---- linked, as a test and as a fact
+-- ---- linked, as a test and as a fact: slot 0 shares its numbers with slot 1, so a test of it says nothing
 
 pub linked-true : {a : Arrays} {s : ℕ} → Linked a s → isLinked a s ≡ true
 unfolding isLinked
 linked-true {a} {s} k = rw (ne-eqb (pcOf a s) 0 (omega (arith, k .marked)))
 
+-- past the end no slot is linked
 past-end : (a : Arrays) (s : ℕ) → capacity a < s → pcOf a s ≡ 0
 unfolding pcOf at capacity
 past-end a s high = List·getD-eq-default (a .pc) 0 (omega arith)
 
 pub true-linked : {a : Arrays} {s : ℕ} → 0 < s → isLinked a s ≡ true → Linked a s
 unfolding isLinked
-true-linked {a} {s} low e = record { positive = low; fits = fits (decLe s (capacity a)); marked = omega (arith, marked) }
+true-linked {a} {s} low e = record {
+  positive = low;
+  fits = fits (decLe s (capacity a));
+  marked = omega (arith, marked);
+}
   where
     marked : pcOf a s ≡ 0 → ⊥
     marked = eqb-false (pcOf a s) 0 (not-true (eqb (pcOf a s) 0) e)
@@ -43,29 +46,6 @@ true-linked {a} {s} low e = record { positive = low; fits = fits (decLe s (capac
     fits : Dec (s ≤ capacity a) → s ≤ capacity a
     fits (yes k) = k
     fits (no k) = absurd (marked (past-end a s (omega arith)))
-
--- ---- a slot of the in-order list is one that stands in the tree
-
-pub member-count : (t : Tree) (s : ℕ) → List·Memᴰ s (slots t) → 1 ≤ count t s
-member-count leaf s k = absurd (List·Memᴰ·not-nil k)
-member-count (node c l x r) s k =
-    go (member-count l s) (member-count r s) (List·Memᴰ·append-cases (slots l) k)
-  where
-    go : (List·Memᴰ s (slots l) → 1 ≤ count l s) → (List·Memᴰ s (slots r) → 1 ≤ count r s) →
-        List·Memᴰ s (slots l) ⊎ List·Memᴰ s (x ∷ slots r) → 1 ≤ count (node c l x r) s
-    go left right (inl k) = let z = left k in omega arith
-    go left right (inr k) =
-        ⊎-elim (λ (e : s ≡ x). rw e (omega (arith, one-same x)))
-        (λ (k : List·Memᴰ s (slots r)). let z = right k in omega arith)
-        (List·Memᴰ·cases-cons k)
-
-pub count-member : (t : Tree) (s : ℕ) → 1 ≤ count t s → List·Memᴰ s (slots t)
-count-member leaf s k = absurd (omega arith)
-count-member (node c l x r) s k =
-    count-cases c l x r s (List·Memᴰ s (slots (node c l x r))) k
-    (λ e. Memᴰ·append-right (slots l) (List·Memᴰ·head (sym e)))
-    (λ k. Memᴰ·append-left (x ∷ slots r) (count-member l s k))
-    (λ k. Memᴰ·append-right (slots l) (List·Memᴰ·tail (count-member r s k)))
 
 -- ---- the linked slots are those of the tree
 
@@ -82,7 +62,7 @@ module _ {m : Lent} {t : Tree} (h : Holds m t) where
   pub in-linked : (s : ℕ) → List·Memᴰ s (slots t) → Linked (m .arrays) s
   in-linked s k = count-linked s (omega (arith, h .sound .once s, member-count t s k))
 
-  -- the test says which
+  -- the test of a slot says whether it stands in the tree
   pub is-linked : (s : ℕ) → 0 < s → isLinked (m .arrays) s ≡ eqb (count t s) 1
   is-linked s low = go (isLinked (m .arrays) s) refl
     where
@@ -110,10 +90,11 @@ module _ {m : Lent} {t : Tree} (h : Holds m t) where
   pub holds-clear : (s : ℕ) → 0 < s → s ≤ capacity (m .arrays) → count t s ≡ 0 → Clear (m .arrays) s
   holds-clear s low high e = holds-hung h .rest s low high e
 
+  -- the root is the top
   pub holds-root : m .root ≡ topOf t
   holds-root = hangs-top (m .arrays) 0 (m .root) t (holds-hung h .hangs)
 
-  -- ---- what is read at the place of a slot
+  -- ---- what is read at the place of a slot: its children, parent and colour
   module _ (c : Color) (l : Tree) (x : ℕ) (r : Tree) (w : List Frame) (e : t ≡ plug (node c l x r) w) where
     pub place-hangs : Hangs (m .arrays) (above w) x (node c l x r)
     place-hangs = hangs-place (m .arrays) (m .root) (node c l x r) w (rw e at (holds-hung h .hangs))

@@ -6,6 +6,7 @@ use Rattle.model.specs.WellFormed.{Rising}
 use Rattle.theory.specs.Checked.{lastKey}
 
 module _ (key : ℕ → ℕ) where
+  -- the second list goes on from the last key of the first
   pub rising-append : (k : ℕ) (L M : List ℕ) → Rising key k L → Rising key (lastKey key k L) M → Rising key k (L ++ M)
   rising-append k [] M p q = q
   rising-append k (x ∷ L) M p q = (p .0, rising-append (key x) L M (p .1) q)
@@ -14,6 +15,7 @@ module _ (key : ℕ → ℕ) where
   rising-split k [] M p = (tt, p)
   rising-split k (x ∷ L) M p = let q = rising-split (key x) L M (p .1) in ((p .0, q .0), q .1)
 
+  -- and ends with the last key of both
   pub last-append : (k : ℕ) (L M : List ℕ) → lastKey key k (L ++ M) ≡ lastKey key (lastKey key k L) M
   last-append k [] M = refl
   last-append k (x ∷ L) M = last-append (key x) L M

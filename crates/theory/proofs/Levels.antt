@@ -6,7 +6,8 @@ use Rattle.model.specs.Tree.{lft, rgt, Color, Tree, leaf, node}
 use Rattle.model.specs.Lent.{Arrays, Linked, capacity, childOf, parentOf}
 use Rattle.theory.specs.Sound.{one, count, Sound}
 use Rattle.theory.specs.Hangs.{Here, Hangs, Level}
-use Rattle.theory.proofs.Counting.{one-same, one-split, count-cases}
+use Rattle.theory.proofs.Counts.{one-same, by-slot}
+use Rattle.theory.proofs.Nodes.{count-cases}
 use Rattle.theory.proofs.Marks.{marked-parent}
 use Rattle.theory.proofs.Hangs.{differ-none}
 
@@ -59,7 +60,7 @@ module _ (a : Arrays) where
   below n p s leaf x h v k = absurd (omega arith)
   below n p s (node c l y r) x h v k =
       let level = here-level n (h .0) v in
-      count-cases c l y r x (Below n p s x) k
+      count-cases c l y r x k
       (λ e. record {
         steps = 0;
         rank = suc n;
@@ -82,32 +83,48 @@ module _ (a : Arrays) where
   no-count p s leaf x h e = refl
   no-count p s (node c l y r) x h e = absurd (omega (arith, h .0 .same, h .0 .linked .positive))
 
+  module _ (n p s : ℕ) (c : Color) (l : Tree) (y : ℕ) (r : Tree)
+      (h : Hangs a p s (node c l y r)) (v : Level a (suc n) y) (x : ℕ) where
+    left : 1 ≤ count l x → Below (suc n) y (childOf lft a y) x
+    left k = below (suc n) y (childOf lft a y) l x (h .1) v k
+
+    right : 1 ≤ count r x → Below (suc n) y (childOf rgt a y) x
+    right k = below (suc n) y (childOf rgt a y) r x (h .2) v k
+
+    shared : 1 ≤ count l x → 1 ≤ count r x → ⊥
+    shared i j =
+        omega (arith, no-count y (childOf lft a y) l x (h .1) (differ-none (h .0 .differ) (meet (left i) (right j))))
+
+    own : {z : ℕ} → y ≡ x → Below (suc n) y z x → ⊥
+    own e b = omega (arith, b .deep, level-one (suc n) (b .rank) x (rw e at v) (b .level))
+
+    -- a slot stands at the top, or on one side
+    once-node : count l x ≤ 1 → count r x ≤ 1 → count (node c l y r) x ≤ 1
+    once-node i j =
+        by-slot y x
+        (λ e. omega (
+          arith,
+          ap (one y) (sym e) ∙ one-same y,
+          none (count l x) (λ k. own e (left k)),
+          none (count r x) (λ k. own e (right k)),
+        ))
+        (λ e. omega (arith, either (count l x) (count r x) i j shared))
+
   once : (n p s : ℕ) (t : Tree) → Hangs a p s t → Level a n p → (x : ℕ) → count t x ≤ 1
   once n p s leaf h v x = omega arith
   once n p s (node c l y r) h v x =
       let level = here-level n (h .0) v in
-      node-once level (below (suc n) y (childOf lft a y) l x (h .1) level) (below (suc n) y (childOf rgt a y) r x (h .2) level)
-      (once (suc n) y (childOf lft a y) l (h .1) level x) (once (suc n) y (childOf rgt a y) r (h .2) level x)
-    where
-      node-once : Level a (suc n) y → (1 ≤ count l x → Below (suc n) y (childOf lft a y) x) →
-          (1 ≤ count r x → Below (suc n) y (childOf rgt a y) x) → count l x ≤ 1 → count r x ≤ 1 → count (node c l y r) x ≤ 1
-      node-once level left right i j =
-          one-split y x (count (node c l y r) x ≤ 1)
-          (λ e. let both = either (count l x) (count r x) i j
-          (λ m k. omega (arith, no-count y (childOf lft a y) l x (h .1) (differ-none (h .0 .differ) (meet (left m) (right k))))) in
-          omega arith)
-          (λ e. let m = none (count l x) (λ k. self e (left k)) in let k = none (count r x) (λ k. self e (right k)) in
-          omega (arith, ap (one y) (sym e) ∙ one-same y))
-        where
-          self : {z : ℕ} → y ≡ x → Below (suc n) y z x → ⊥
-          self e b = omega (arith, b .deep, level-one (suc n) (b .rank) x (rw e at level) (b .level))
+      once-node n p s c l y r h level x (once (suc n) y (childOf lft a y) l (h .1) level x)
+      (once (suc n) y (childOf rgt a y) r (h .2) level x)
 
   -- the slots of the tree are linked
   pub hangs-linked : (p s : ℕ) (t : Tree) (x : ℕ) → Hangs a p s t → 1 ≤ count t x → Linked a x
   hangs-linked p s leaf x h k = absurd (omega arith)
   hangs-linked p s (node c l y r) x h k =
-      count-cases c l y r x (Linked a x) k (λ e. rw (← e) (h .0 .linked))
-      (λ k. hangs-linked y (childOf lft a y) l x (h .1) k) (λ k. hangs-linked y (childOf rgt a y) r x (h .2) k)
+      count-cases c l y r x k
+      (λ e. rw (← e) (h .0 .linked))
+      (λ k. hangs-linked y (childOf lft a y) l x (h .1) k)
+      (λ k. hangs-linked y (childOf rgt a y) r x (h .2) k)
 
   -- the tree below the root fits into the arrays
   pub hangs-sound : (root : ℕ) (t : Tree) → Hangs a 0 root t → Sound (capacity a) t

@@ -7,14 +7,15 @@ pub mod Calls
 pub mod Calm
 pub mod Changes
 pub mod Check
+pub mod CheckCounts
 pub mod CheckFinds
 pub mod CheckReads
+pub mod CheckReturns
 pub mod CheckSlots
 pub mod CheckSteps
 pub mod CodeParts
 pub mod CodeValues
 pub mod Codes
-pub mod Counting
 pub mod Counts
 pub mod Demands
 pub mod Descents
@@ -37,6 +38,7 @@ pub mod Levels
 pub mod Lists
 pub mod Marks
 pub mod Meaning
+pub mod Nodes
 pub mod Orderly
 pub mod Orders
 pub mod Placing
@@ -47,7 +49,6 @@ pub mod Removal
 pub mod RemovalBalance
 pub mod Results
 pub mod Rising
-pub mod Shallow
 pub mod Sides
 pub mod Tests
 pub mod Totals

@@ -6,12 +6,8 @@ use mathlib.Core.Path.{_≡_, refl}
 use Rattle.model.specs.Tree.{Tree, leaf, node}
 use Rattle.theory.specs.Balance.{size}
 use Rattle.theory.specs.Sound.{one, count, Sound}
-use Rattle.theory.proofs.Counting.{one-same, one-split}
-
--- f s + f (s + 1) + .., of C numbers
-abbrev pub total : (C s : ℕ) → (ℕ → ℕ) → ℕ
-total zero s f = 0
-total (suc C) s f = f s + total C (suc s) f
+use Rattle.theory.specs.Totals.{total}
+use Rattle.theory.proofs.Counts.{one-same, by-slot}
 
 total-add : (C s : ℕ) (f g : ℕ → ℕ) → total C s (λ i. f i + g i) ≡ total C s f + total C s g
 total-add zero s f g = refl
@@ -34,30 +30,30 @@ total-le (suc C) s f g each =
 -- where no term is larger and the sum isn't smaller, all terms are the same
 pub total-same : (C s : ℕ) (f g : ℕ → ℕ) → ((i : ℕ) → s ≤ i → i < s + C → f i ≤ g i) → total C s g ≤ total C s f →
     (i : ℕ) → s ≤ i → i < s + C → f i ≡ g i
-total-same zero s f g each e i lo hi = absurd (omega arith)
-total-same (suc C) s f g each e i lo hi =
-    go (ℕ-discrete i s) (total-same C (suc s) f g rest) (total-le C (suc s) f g rest) (each s (omega arith) (omega arith))
+total-same zero s f g each e i low high = absurd (omega arith)
+total-same (suc C) s f g each e i low high =
+    go (ℕ-discrete i s) (total-same C (suc s) f g rest)
   where
     rest : (i : ℕ) → suc s ≤ i → i < suc s + C → f i ≤ g i
     rest i low high = each i (omega arith) (omega arith)
 
     go : Dec (i ≡ s) →
-        (total C (suc s) g ≤ total C (suc s) f → (i : ℕ) → suc s ≤ i → i < suc s + C → f i ≡ g i) →
-        total C (suc s) f ≤ total C (suc s) g → f s ≤ g s → f i ≡ g i
-    go (yes q) more below here = rw q (omega arith)
-    go (no q) more below here = more (omega arith) i (omega arith) (omega arith)
+        (total C (suc s) g ≤ total C (suc s) f → (i : ℕ) → suc s ≤ i → i < suc s + C → f i ≡ g i) → f i ≡ g i
+    go (yes q) more = rw q (omega (arith, total-le C (suc s) f g rest, each s (omega arith) (omega arith)))
+    go (no q) more = more (omega (arith, each s (omega arith) (omega arith))) i (omega arith) (omega arith)
 
 total-past : (C s x : ℕ) → x < s → total C s (one x) ≡ 0
 total-past zero s x h = refl
 total-past (suc C) s x h =
-    omega (arith, total-past C (suc s) x (omega arith), one-split x s (one x s ≡ 0) (λ e. e) (λ e. absurd (omega arith)))
+    let here : one x s ≡ 0 = by-slot x s (λ e. absurd (omega arith)) (λ e. e) in
+    omega (arith, total-past C (suc s) x (omega arith))
 
 total-one : (C s x : ℕ) → s ≤ x → x < s + C → total C s (one x) ≡ 1
-total-one zero s x lo hi = absurd (omega arith)
-total-one (suc C) s x lo hi =
-    one-split x s (total (suc C) s (one x) ≡ 1)
-    (λ e. omega (arith, total-one C (suc s) x (omega (arith, apart e)) (omega arith)))
+total-one zero s x low high = absurd (omega arith)
+total-one (suc C) s x low high =
+    by-slot x s
     (λ e. rw (← e) (omega (arith, one-same x, total-past C (suc x) x (omega arith))))
+    (λ e. omega (arith, total-one C (suc s) x (omega (arith, apart e)) (omega arith)))
   where
     apart : one x s ≡ 0 → x ≡ s → ⊥
     apart e q = let z : one s s ≡ 0 = rw q at e in omega (arith, one-same s)

@@ -12,7 +12,7 @@ use Rattle.model.specs.Lent.{Arrays, capacity}
 use Rattle.model.specs.WellFormed.{Differ}
 use Rattle.model.specs.Check.{Verdict, bad, good, guard, andThen, differ, isSlot}
 
--- ---- a verdict that is good
+-- ---- verdicts: what a good one has passed, and what makes one good
 
 pub bad-good : {R : Type 0} {b n k : ℕ} → bad ≡ good b n k → R
 bad-good {R} {b} {n} {k} e = let z : _≡_ {A = ℕ} 0 1 = cc in absurd (omega arith)
@@ -38,9 +38,10 @@ pub then-pass : (u : Verdict) (more : ℕ → ℕ → ℕ → Verdict) (v : Verd
 unfolding andThen
 then-pass u more v b n k e f = rw e f
 
--- ---- the tests
+-- ---- the tests, and what they decide
 
-pub both-true : {R : Type 0} (t : Bool) (more : Unit {0} → Bool) → both t more ≡ true → (t ≡ true → more tt ≡ true → R) → R
+pub both-true : {R : Type 0} (t : Bool) (more : Unit {0} → Bool) → both t more ≡ true →
+    (t ≡ true → more tt ≡ true → R) → R
 unfolding both
 both-true true more e f = f refl e
 both-true false more e f = let z : _≡_ {A = ℕ} 0 1 = cc in absurd (omega arith)
@@ -53,6 +54,7 @@ pub and-true : {R : Type 0} (t u : Bool) → (t && u) ≡ true → (t ≡ true �
 and-true true u e f = f refl e
 and-true false u e f = let z : _≡_ {A = ℕ} 0 1 = cc in absurd (omega arith)
 
+-- two children
 pub differ-true : (l r : ℕ) → differ l r ≡ true → Differ l r
 unfolding differ
 differ-true l r e = go (ℕ-discrete l r)
@@ -66,9 +68,14 @@ unfolding differ
 true-differ l r (inl q) = rw (ne-eqb l r q)
 true-differ l r (inr q) = rw (q .0, q .1)
 
+-- a slot number
 pub slot-true : (a : Arrays) (s : ℕ) → isSlot a s ≡ true → (0 < s) × (s ≤ capacity a)
 unfolding isSlot
 slot-true a s e = and-true (ltb 0 s) (leb s (capacity a)) e λ f g. (ltb-true 0 s f, leb-true s (capacity a) g)
+
+pub no-slot : (a : Arrays) → isSlot a 0 ≡ false
+unfolding isSlot
+no-slot a = refl
 
 pub true-slot : (a : Arrays) (s : ℕ) → 0 < s → s ≤ capacity a → isSlot a s ≡ true
 unfolding isSlot

@@ -11,14 +11,15 @@ use Rattle.theory.specs.Hangs.{Here, Hangs}
 use Rattle.theory.proofs.Marks.{marked-color, dark-is}
 
 module _ (a : Arrays) where
-  -- there is one walk, the in-order list
+  -- the walk meets the in-order list
   pub walk-of : (p s : ℕ) (t : Tree) → Hangs a p s t → Walk a s (slots t)
   walk-of p s leaf h = nothing h refl
   walk-of p s (node c l x r) h =
-      rw (h .0 .same)
-      (around (slots l) (slots r) (h .0 .linked .positive) (walk-of x (childOf lft a x) l (h .1))
-      (walk-of x (childOf rgt a x) r (h .2)) refl)
+      let before = walk-of x (childOf lft a x) l (h .1) in
+      let after = walk-of x (childOf rgt a x) r (h .2) in
+      rw (h .0 .same) (around (slots l) (slots r) (h .0 .linked .positive) before after refl)
 
+  -- and no other
   pub walk-is : (p s : ℕ) (L : List ℕ) (t : Tree) → Hangs a p s t → Walk a s L → L ≡ slots t
   walk-is p s L leaf h (nothing e f) = f
   walk-is p s L leaf h (around before after low u v e) = absurd (omega arith)
@@ -35,8 +36,8 @@ module _ (a : Arrays) where
   way-of : (p s : ℕ) (t : Tree) → Hangs a p s t → Way a s (blacks t)
   way-of p s leaf h = missing h refl
   way-of p s (node c l x r) h =
-      rw (h .0 .same)
-      (through lft (blacks l) (h .0 .linked .positive) (way-of x (childOf lft a x) l (h .1)) (sym (node-blacks (blacks l) (h .0))))
+      let below = way-of x (childOf lft a x) l (h .1) in
+      rw (h .0 .same) (through lft (blacks l) (h .0 .linked .positive) below (sym (node-blacks (blacks l) (h .0))))
 
   -- in an even tree every way meets as many black nodes as the leftmost
   pub way-is : (p s n : ℕ) (t : Tree) → Hangs a p s t → Even t → Way a s n → n ≡ blacks t
@@ -44,10 +45,14 @@ module _ (a : Arrays) where
   way-is p s n leaf h even (through d below low w e) = absurd (omega arith)
   way-is p s n (node c l x r) h even (missing e f) = absurd (omega (arith, h .0 .same, h .0 .linked .positive))
   way-is p s n (node c l x r) h even (through d below low w e) =
-      (rw (h .0 .same) at e) ∙ node-blacks below (h .0)
+      (rw (h .0 .same) at e)
+      ∙ node-blacks below (h .0)
       ∙ ap (dark c)
-      (side (λ w. way-is x (childOf lft a x) below l (h .1) (even .0) w)
-      (λ w. way-is x (childOf rgt a x) below r (h .2) (even .1) w ∙ sym (even .2)) d (rw (h .0 .same) at w))
+      (side
+      (λ w. way-is x (childOf lft a x) below l (h .1) (even .0) w)
+      (λ w. way-is x (childOf rgt a x) below r (h .2) (even .1) w ∙ sym (even .2))
+      d
+      (rw (h .0 .same) at w))
     where
       side : (Way a (childOf lft a x) below → below ≡ blacks l) → (Way a (childOf rgt a x) below → below ≡ blacks l) →
           (d : Side) → Way a (childOf d a x) below → below ≡ blacks l
@@ -60,7 +65,8 @@ module _ (a : Arrays) where
   ways-even p s (node c l x r) h same = (
     ways-even x (childOf lft a x) l (h .1) (λ n k v w. below n k (over lft n v) (over lft k w)),
     ways-even x (childOf rgt a x) r (h .2) (λ n k v w. below n k (over rgt n v) (over rgt k w)),
-    below (blacks l) (blacks r) (over lft (blacks l) (way-of x (childOf lft a x) l (h .1)))
+    below (blacks l) (blacks r)
+        (over lft (blacks l) (way-of x (childOf lft a x) l (h .1)))
         (over rgt (blacks r) (way-of x (childOf rgt a x) r (h .2))),
   )
     where

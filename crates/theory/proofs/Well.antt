@@ -1,16 +1,17 @@
 -- Where a tree hangs in lent arrays and nothing else does, W1 to W6 hold.
 use Prim.Native.Nat.{ℕ, zero, suc, _≤_, _<_}
 use native.Mathlib.Omega.{arith}
-use mathlib.Core.List.{List, []}
 use mathlib.Core.Path.{_≡_, refl, sym, _∙_}
-use Rattle.model.specs.Tree.{lft, rgt, Color, Tree, leaf, node, on, Frame, plug, above}
+use Rattle.model.specs.Tree.{Side, lft, rgt, Color, Tree, leaf, node, on, plug, above}
 use Rattle.model.specs.Lent.{Lent, Linked, capacity, childOf, pcOf}
-use Rattle.model.specs.WellFormed.{W3, W5, WellFormed}
-use Rattle.theory.specs.Balance.{tint, Calm}
+use Rattle.model.specs.WellFormed.{Reached, W3, W5, WellFormed}
+use Rattle.theory.specs.Balance.{tint, Allowed}
 use Rattle.theory.specs.Sound.{count}
-use Rattle.theory.specs.Hangs.{Hangs, Hung}
-use Rattle.theory.proofs.Counting.{locate}
-use Rattle.theory.proofs.Calm.{allowed-red, calm-side, calm-place}
+use Rattle.theory.specs.Hangs.{Here, Hangs, Hung}
+use Rattle.theory.proofs.Lists.{count-member}
+use Rattle.theory.proofs.Focus.{standing}
+use Rattle.theory.proofs.Balance.{unplug}
+use Rattle.theory.proofs.Calm.{allowed-red, calm-side}
 use Rattle.theory.proofs.Marks.{marked-color}
 use Rattle.theory.proofs.Hangs.{hangs-below, hangs-child, hangs-color, hangs-place, reached-place}
 use Rattle.theory.proofs.Levels.{hangs-linked}
@@ -25,46 +26,47 @@ module _ (m : Lent) (t : Tree) (h : Hung m t) where
       go zero e = absurd (omega (arith, k .marked, h .rest s (k .positive) (k .fits) e .pc))
       go (suc n) e = omega arith
 
-  -- the node of a linked slot
+  -- what stands at a linked slot, and below it on each side
   record Node (s : ℕ) : Type 0 where
     color : Color
     left : Tree
     right : Tree
-    way : List Frame
-    hangs : Hangs (m .arrays) (above way) s (node color left s right)
-    calm : Calm (node color left s right)
-    root : Hangs (m .arrays) 0 (m .root) (plug (node color left s right) way)
+    parent : ℕ
+    here : Here (m .arrays) parent s color s
+    below : (d : Side) → Hangs (m .arrays) s (childOf d (m .arrays) s) (on d left right)
+    colors : (d : Side) → Allowed color (tint (on d left right))
+    reached : Reached (m .arrays) (m .root) s
 
   node-of : (s : ℕ) → Linked (m .arrays) s → Node s
   node-of s k =
-      let p = locate t [] s (hung-linked s k) in
-      let u = node (p .color) (p .left) s (p .right) in
-      let root : Hangs (m .arrays) 0 (m .root) (plug u (p .way)) = rw (p .is) at (h .hangs) in
+      let p = standing lft s t (count-member t s (hung-linked s k)) in
+      let u = node (p .color) (p .near) s (p .far) in
+      let root : Hangs (m .arrays) 0 (m .root) (plug u (p .way)) = rw (p .whole) (h .hangs) in
+      let hangs = hangs-place (m .arrays) (m .root) u (p .way) root in
+      let calm = unplug u (p .way) (rw (p .whole) (h .balanced)) .ranked .calm in
       record {
         color = p .color;
-        left = p .left;
-        right = p .right;
-        way = p .way;
-        hangs = hangs-place (m .arrays) (m .root) u (p .way) root;
-        calm = calm-place u (p .way) (rw (p .is) at (h .balanced .calm));
-        root = root;
+        left = p .near;
+        right = p .far;
+        parent = above (p .way);
+        here = hangs .0;
+        below = λ d. hangs-below (m .arrays) d (above (p .way)) s (p .color) (p .near) s (p .far) hangs;
+        colors = λ d. calm-side d (p .color) (p .near) s (p .far) calm;
+        reached = reached-place (m .arrays) (m .root) u (p .way) root (k .positive);
       }
 
   w3 : W3 m
   w3 = record {
     child = λ d s k.
         let n = node-of s k in
-        hangs-child (m .arrays) s (childOf d (m .arrays) s) (on d (n .left) (n .right))
-        (hangs-below (m .arrays) d (above (n .way)) s (n .color) (n .left) s (n .right) (n .hangs));
-    differ = λ s k. node-of s k .hangs .0 .differ;
+        hangs-child (m .arrays) s (childOf d (m .arrays) s) (on d (n .left) (n .right)) (n .below d);
+    differ = λ s k. node-of s k .here .differ;
     root = λ some. (
       hangs-color (m .arrays) 0 (m .root) t (h .hangs) some ∙ h .balanced .top,
       hangs-child (m .arrays) 0 (m .root) t (h .hangs) some .1,
     );
     empty = λ e s k. bare s t e (h .hangs) (hung-linked s k);
-    reached = λ s k.
-        let n = node-of s k in
-        reached-place (m .arrays) (m .root) (node (n .color) (n .left) s (n .right)) (n .way) (n .root) (k .positive);
+    reached = λ s k. node-of s k .reached;
   }
     where
       bare : (s : ℕ) (t : Tree) → m .root ≡ 0 → Hangs (m .arrays) 0 (m .root) t → 1 ≤ count t s → ⊥
@@ -74,10 +76,10 @@ module _ (m : Lent) (t : Tree) (h : Hung m t) where
   w5 : W5 (m .arrays)
   w5 d s k e some =
       let n = node-of s k in
-      let red-top = sym (marked-color (m .arrays) s (above (n .way)) (n .color) (n .hangs .0 .marked)) ∙ e in
-      hangs-color (m .arrays) s (childOf d (m .arrays) s) (on d (n .left) (n .right))
-      (hangs-below (m .arrays) d (above (n .way)) s (n .color) (n .left) s (n .right) (n .hangs)) some
-      ∙ allowed-red (n .color) (tint (on d (n .left) (n .right))) red-top (calm-side d (n .color) (n .left) s (n .right) (n .calm))
+      let u = on d (n .left) (n .right) in
+      let is-red = sym (marked-color (m .arrays) s (n .parent) (n .color) (n .here .marked)) ∙ e in
+      hangs-color (m .arrays) s (childOf d (m .arrays) s) u (n .below d) some
+      ∙ allowed-red (n .color) (tint u) is-red (n .colors d)
 
   root-fits : m .root ≤ capacity (m .arrays)
   root-fits = go t (h .hangs)
@@ -91,9 +93,10 @@ module _ (m : Lent) (t : Tree) (h : Hung m t) where
   clear-rest s low high e = go (count t s) refl
     where
       go : (n : ℕ) → count t s ≡ n → (childOf lft (m .arrays) s ≡ 0) × (childOf rgt (m .arrays) s ≡ 0)
-      go zero f = let k = h .rest s low high f in (k .left, k .right)
+      go zero f = let k = h .rest s low high f in (k .child lft, k .child rgt)
       go (suc n) f = absurd (omega (arith, hangs-linked (m .arrays) 0 (m .root) t s (h .hangs) (omega arith) .marked))
 
+-- W1 to W6
 pub hung-well : {m : Lent} {t : Tree} → Hung m t → WellFormed m
 hung-well {m} {t} h = record {
   w1 = record { lengths = h .lengths; root = root-fits m t h };

@@ -34,3 +34,7 @@ pub record Read (a : Arrays) (above s least b n k : ℕ) (t : Tree) : Type 0 whe
   pub nodes : size t ≡ n
   pub rising : Rising (keyOf a) least (slots t)
   pub last : lastKey (keyOf a) least (slots t) ≡ k
+
+-- there is such a tree, and P holds of it
+abbrev pub Found : Arrays → (P : Tree → Type 0) → (above s least b n k : ℕ) → Type 0
+Found a P above s least b n k = (t : Tree) × P t × Read a above s least b n k t

@@ -1,7 +1,7 @@
 -- A tree as the lent numbers tell it: what stands at each of its nodes, and that no other slot is linked.
 use Prim.Native.Nat.{ℕ, zero, suc, _≤_, _<_}
 use mathlib.Core.Path.{_≡_}
-use Rattle.model.specs.Tree.{lft, rgt, Color, Tree, leaf, node, slots}
+use Rattle.model.specs.Tree.{Side, lft, rgt, Color, Tree, leaf, node, slots}
 use Rattle.model.specs.Lent.{Arrays, Lent, Linked, capacity, childOf, pcOf, keyOf, parentOf, parentColor}
 use Rattle.model.specs.WellFormed.{Lengths, Differ, Rising}
 use Rattle.theory.specs.Balance.{Balanced}
@@ -21,8 +21,7 @@ Hangs a above s (node c l x r) = Here a above s c x × Hangs a x (childOf lft a 
 
 -- both children and the mark of a slot are 0
 pub record Clear (a : Arrays) (s : ℕ) : Type 0 where
-  pub left : childOf lft a s ≡ 0
-  pub right : childOf rgt a s ≡ 0
+  pub child : (d : Side) → childOf d a s ≡ 0
   pub pc : pcOf a s ≡ 0
 
 -- the root leads to this tree, it keeps all rules, and the slots outside it are clear

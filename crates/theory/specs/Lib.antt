@@ -17,4 +17,6 @@ pub mod Sided
 pub mod Slots
 pub mod Sound
 pub mod Spelling
+pub mod Totals
 pub mod Trail
+pub mod Verdicts
