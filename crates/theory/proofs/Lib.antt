@@ -39,6 +39,7 @@ pub mod Lists
 pub mod Marks
 pub mod Meaning
 pub mod Nodes
+pub mod Operate
 pub mod Orderly
 pub mod Orders
 pub mod Placing

@@ -1,7 +1,15 @@
--- The order of keys at a place of the caller's choice, as the code tests it: by the two slots beside the place.
+-- What a call that places a key at a position tests, as the code does it: the position and the new slot, then the keys
+-- of the two slots beside the place.
 use Prim.Native.Nat.{ℕ}
 use mathlib.Core.Bool.{Bool, _&&_, _||_}
+use mathlib.Core.Option.{some}
 use lib.Dec.{eqb, leb}
+use Rattle.model.specs.Lent.{Arrays}
+use Rattle.model.specs.Answers.{Code, positionTest, slotTest, thenTest}
+
+-- the position, and where it passes the new slot
+unfoldable pub bothTest : (needsNode : Bool) → (position slot : ℕ) → Arrays → Code
+bothTest needed p s a = thenTest (positionTest needed (some p) a) (λ _. slotTest (some s) a)
 
 -- the key of a slot is at most k; 0 stands for no slot
 unfoldable pub upTo : (key : ℕ → ℕ) → (slot k : ℕ) → Bool
