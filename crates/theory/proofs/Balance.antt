@@ -35,10 +35,16 @@ ranked-leaf = record { calm = tt; even = tt; rank = refl }
 pub ranked-nod : {n : ℕ} (d : Side) (c : Color) {near : Tree} (x : ℕ) {far : Tree} → Allowed c (tint near)
     → Allowed c (tint far)
     → Ranked n near → Ranked n far → Ranked (dark c n) (nod d c near x far)
-ranked-nod lft c x o q a b =
-    record { calm = (o, q, a .calm, b .calm); even = (a .even, b .even, a .rank ∙ sym (b .rank)); rank = ap (dark c) (a .rank) }
-ranked-nod rgt c x o q a b =
-    record { calm = (q, o, b .calm, a .calm); even = (b .even, a .even, b .rank ∙ sym (a .rank)); rank = ap (dark c) (b .rank) }
+ranked-nod lft c x o q a b = record {
+  calm = (o, q, a .calm, b .calm);
+  even = (a .even, b .even, a .rank ∙ sym (b .rank));
+  rank = ap (dark c) (a .rank);
+}
+ranked-nod rgt c x o q a b = record {
+  calm = (q, o, b .calm, a .calm);
+  even = (b .even, a .even, b .rank ∙ sym (a .rank));
+  rank = ap (dark c) (b .rank);
+}
 
 pub black-nod : {n : ℕ} (d : Side) {near : Tree} (x : ℕ) {far : Tree} → Ranked n near → Ranked n far
     → Ranked (suc n) (nod d black near x far)

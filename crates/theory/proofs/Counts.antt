@@ -1,11 +1,11 @@
--- How often a slot stands in a tree, and when a tree fits into C slots: what places, lists and painting mean for it.
+-- How often a slot stands in a tree and at a place of it, and when a tree fits into C slots.
 use Prim.Native.Nat.{ℕ, zero, suc, _+_, _≤_}
-use mathlib.Core.Path.{_≡_, refl, ap, sym, _∙_}
-use mathlib.Core.List.{List, [], _∷_, _++_}
+use mathlib.Core.Path.{_≡_, refl}
+use mathlib.Core.List.{List, [], _∷_}
 use native.Mathlib.Omega.{arith}
-use lib.Dec.{eqb}
-use borrow.Author.Tests.{eqb-true, eq-eqb}
-use Rattle.model.specs.Tree.{Side, lft, rgt, Color, Tree, leaf, node, nod, topOf, slots, Frame, frame, plug, above}
+use lib.Dec.{eqb, leb}
+use borrow.Author.Tests.{eqb-true, eq-eqb, leb-true, leb-false}
+use Rattle.model.specs.Tree.{Side, lft, rgt, Color, Tree, leaf, node, nod, topOf, Frame, frame, plug, above}
 use Rattle.theory.specs.Sound.{one, count, countUp, Sound}
 use Rattle.theory.proofs.Branch.{by-test}
 
@@ -38,25 +38,10 @@ pub count-top : (t : Tree) → 1 ≤ topOf t → 1 ≤ count t (topOf t)
 count-top leaf h = absurd (omega arith)
 count-top (node c l x r) h = omega (arith, one-same x)
 
--- ---- lists
-
--- how often a slot stands in a list
-abbrev occurs : List ℕ → ℕ → ℕ
-occurs [] s = 0
-occurs (x ∷ L) s = one x s + occurs L s
-
-occurs-append : (L M : List ℕ) (s : ℕ) → occurs (L ++ M) s ≡ occurs L s + occurs M s
-occurs-append [] M s = omega arith
-occurs-append (x ∷ L) M s = omega (arith, occurs-append L M s)
-
-count-slots : (t : Tree) (s : ℕ) → count t s ≡ occurs (slots t) s
-count-slots leaf s = refl
-count-slots (node c l x r) s =
-    omega (arith, occurs-append (slots l) (x ∷ slots r) s, count-slots l s, count-slots r s)
-
--- trees with one in-order list have the same slots, equally often
-pub count-same : (t u : Tree) → slots u ≡ slots t → (s : ℕ) → count u s ≡ count t s
-count-same t u e s = count-slots u s ∙ ap (λ (L : List ℕ). occurs L s) e ∙ sym (count-slots t s)
+-- a slot stands in the tree or not
+pub by-count {ℓ} : {P : Type ℓ} (t : Tree) (s : ℕ) → (count t s ≡ 0 → P) → (1 ≤ count t s → P) → P
+by-count t s none some = by-test (leb 1 (count t s))
+    (λ is. some (leb-true 1 (count t s) is)) (λ is. none (omega (arith, leb-false 1 (count t s) is)))
 
 -- ---- trees that fit
 
@@ -66,9 +51,6 @@ sound-less t u le h = record {
   low = λ s k. h .low s (omega (arith, le s));
   high = λ s k. h .high s (omega (arith, le s));
 }
-
-pub sound-same : {C : ℕ} (t u : Tree) → slots u ≡ slots t → Sound C t → Sound C u
-sound-same t u e = sound-less t u (λ s. omega (arith, count-same t u e s))
 
 -- one slot more, which isn't in the tree yet
 pub sound-more : {C : ℕ} (t u : Tree) (x : ℕ) → ((s : ℕ) → count u s ≤ one x s + count t s)

@@ -14,7 +14,8 @@ use Rattle.theory.proofs.Branch.{by-test}
 use Rattle.theory.proofs.Balance.{Ranked, Around, red≢black, not-red, allowed-black, ranked-leaf, ranked-nod}
 use Rattle.theory.proofs.Balance.{black-nod, ranked-parts, over-red, tint-paint, ranked-paint, fits-black}
 use Rattle.theory.proofs.Balance.{plug-balanced, unplug}
-use Rattle.theory.proofs.Counts.{count-plug, count-same, sound-more}
+use Rattle.theory.proofs.Counts.{count-plug, sound-more}
+use Rattle.theory.proofs.Lists.{count-same}
 use Rattle.theory.proofs.Turned.{shape-paint, shape-children, turned-slots, turned-none, turned-from}
 use Rattle.theory.proofs.Turned.{turned-more, turned-rotate, shape-place, turned-paint}
 

@@ -14,6 +14,7 @@ use Rattle.model.specs.Tree.{lft, rgt, Color, Tree, leaf, node, slots, Frame, f
 use Rattle.model.specs.Order.{firstSlot, following, exchange}
 use Rattle.theory.specs.Sound.{one, count, Sound}
 use Rattle.theory.specs.Lists.{before, after, times}
+use Rattle.theory.proofs.Counts.{one-same}
 
 -- ---- round a place
 
@@ -35,10 +36,6 @@ after-append (frame lft c p s ∷ v) w = rw (after-append v w, append-assoc (slo
 after-append (frame rgt c p s ∷ v) w = after-append v w
 
 -- ---- which slots stand in a list
-
-one-same : (x : ℕ) → one x x ≡ 1
-unfolding one
-one-same x = rw (eq-eqb x x refl)
 
 one-hit : (x s : ℕ) → 1 ≤ one x s → s ≡ x
 unfolding one
@@ -72,6 +69,10 @@ count-times : (t : Tree) (s : ℕ) → count t s ≡ times s (slots t)
 unfolding times
 count-times leaf s = refl
 count-times (node c l x r) s = omega (arith, times-append s (slots l) (x ∷ slots r), count-times l s, count-times r s)
+
+-- trees with one list have the same slots, equally often
+pub count-same : (t u : Tree) → slots u ≡ slots t → (s : ℕ) → count u s ≡ count t s
+count-same t u e s = count-times u s ∙ ap (times s) e ∙ sym (count-times t s)
 
 -- a slot is counted in a tree exactly when it stands in its list
 pub count-member : (t : Tree) (s : ℕ) → 1 ≤ count t s → List·Memᴰ s (slots t)

@@ -69,7 +69,7 @@ first-append : (K : List ℕ) (x : ℕ) (L M : List ℕ) → firstSlot ((K ++ x 
 first-append [] x L M = refl
 first-append (y ∷ K) x L M = refl
 
-first-facing : (d : Side) (c : Color) (l : Tree) (x : ℕ) (r : Tree) (L : List ℕ)
+pub first-facing : (d : Side) (c : Color) (l : Tree) (x : ℕ) (r : Tree) (L : List ℕ)
     → firstSlot (facing d (slots (node c l x r)) ++ L) ≡ firstSlot (facing d (slots (node c l x r)))
 first-facing rgt c l x r L = first-append (slots l) x (slots r) L
 first-facing lft c l x r L =

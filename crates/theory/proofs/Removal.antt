@@ -12,7 +12,8 @@ use Rattle.model.specs.Shape.{shape, TurnedAtMost}
 use Rattle.theory.specs.Sound.{one, count, Sound}
 use Rattle.theory.proofs.Branch.{by-test}
 use Rattle.theory.proofs.Sides.{nod-opp}
-use Rattle.theory.proofs.Counts.{count-plug, count-same, sound-less}
+use Rattle.theory.proofs.Counts.{count-plug, sound-less}
+use Rattle.theory.proofs.Lists.{count-same}
 use Rattle.theory.proofs.Turned.{shape-paint, shape-paintChild, shape-children, turned-slots, turned-none}
 use Rattle.theory.proofs.Turned.{turned-more, turned-rotate, turned-paint}
 
@@ -65,7 +66,8 @@ below-turned {n} v d c t q s up repeat le h again =
 
 -- a red sibling s comes up
 raised : (d : Side) (c : Color) (t : Tree) (q : ℕ) (s : Tree) → isRed s ≡ true
-    → shape (nod d black (nod d red t q (childTree d s)) (topOf s) (childTree (opp d) s)) ≡ shape (rotate d (nod d c t q s))
+    → shape (nod d black (nod d red t q (childTree d s)) (topOf s) (childTree (opp d) s))
+    ≡ shape (rotate d (nod d c t q s))
 raised d c t q leaf is = absurd (true≢false (sym is))
 raised lft c t q (node k l y r) is = refl
 raised rgt c t q (node k l y r) is = refl
@@ -75,7 +77,8 @@ unfolding refill belowRed
 refill-turned v t [] h = turned-more v t (omega arith) h
 refill-turned v t (frame d c q s ∷ up) h =
     by-test (isRed s)
-    (λ is. rw is (below-turned v d red t q (childTree d s) (frame d black (topOf s) (childTree (opp d) s) ∷ up) (λ t. t) (omega arith)
+    (λ is. rw is (below-turned v d red t q (childTree d s)
+    (frame d black (topOf s) (childTree (opp d) s) ∷ up) (λ t. t) (omega arith)
     (turned-paint v (rotate d (nod d c t q s)) _ up (raised d c t q s is) (turned-rotate v d (nod d c t q s) up h))
     (λ goes. absurd (true≢false goes))))
     (λ is. rw is (below-turned v d c t q s up (λ t. refill t up) (omega arith) h

@@ -27,7 +27,8 @@ still-black black w e = refl
 below-balanced : {n : ℕ} (d : Side) (c : Color) (t : Tree) (q : ℕ) (near : Tree) (s : ℕ) (far : Tree) (up : List Frame)
     (repeat : Tree → Tree)
     → Ranked n t → Ranked n near → Ranked n far → Fits up c → Around (dark c (suc n)) up
-    → (rootOrRed c up ≡ false → (u : Tree) → tint u ≡ black → Ranked (suc n) u → Around (suc (suc n)) up → Balanced (repeat u))
+    → (rootOrRed c up ≡ false → (u : Tree) → tint u ≡ black → Ranked (suc n) u → Around (suc (suc n)) up
+    → Balanced (repeat u))
     → Balanced (belowBlack d c t q (nod d black near s far) up repeat)
 below-balanced {n} d c t q near s far up repeat place-ranked near-ranked far-ranked fits around again =
     below-by Balanced d c t q s far up repeat near
@@ -37,7 +38,8 @@ below-balanced {n} d c t q near s far up repeat place-ranked near-ranked far-ran
     (λ is a y b e.
     let h = ranked-parts d red y (rw e at near-ranked) in
     plug-balanced (nod d c (nod d black t q a) y (nod d black b s far)) up
-    (ranked-nod d c y (allowed-black c) (allowed-black c) (black-nod d q place-ranked (h .near)) (black-nod d s (h .far) far-ranked))
+    (ranked-nod d c y (allowed-black c) (allowed-black c)
+    (black-nod d q place-ranked (h .near)) (black-nod d s (h .far) far-ranked))
     around fits)
     (λ near-is far-is ends. plug-balanced (nod d black t q (nod d red near s far)) up
     (black-nod d q place-ranked (ranked-nod d red s (not-red near near-is) (not-red far far-is) near-ranked far-ranked))
@@ -45,7 +47,8 @@ below-balanced {n} d c t q near s far up repeat place-ranked near-ranked far-ran
     (λ near-is far-is goes.
     let e = still-black c up goes in
     again goes (nod d c t q (nod d red near s far)) e
-    (rw e (black-nod d q place-ranked (ranked-nod d red s (not-red near near-is) (not-red far far-is) near-ranked far-ranked)))
+    (rw e (black-nod d q place-ranked
+    (ranked-nod d red s (not-red near near-is) (not-red far far-is) near-ranked far-ranked)))
     (rw e at around))
 
 -- a red sibling: its near child is black, and q, red then, makes up for the black
@@ -56,7 +59,8 @@ raised-balanced d c t q near s far up place-ranked ranked allowed around =
     let h = ranked-parts d red s ranked in
     let v = black-side d near (h .near-allowed) (h .near) in
     let p = ranked-parts d black (v .1) (rw (v .3) at (h .near)) in
-    rw (v .3) (below-balanced d red t q (v .0) (v .1) (v .2) (frame d black s far ∷ up) (λ u. u) place-ranked (p .near) (p .far) tt
+    rw (v .3) (below-balanced d red t q (v .0) (v .1) (v .2) (frame d black s far ∷ up) (λ u. u)
+    place-ranked (p .near) (p .far) tt
     (tt, h .far, fits-black up, rw (over-red c allowed) at around) (λ goes. absurd (true≢false goes)))
 
 -- the place t has one black node less than its surroundings ask for
@@ -76,13 +80,15 @@ refill-balanced n t (frame d c q s ∷ up) is h a = by-side d
     sibling black near y far allowed r again =
         let p = ranked-parts d black y r in
         below-balanced d c t q near y far up (λ u. refill u up) h (p .near) (p .far) (a .2) (a .3) (λ _. again)
-    sibling red near y far allowed r again = rw (refill-red t d c q near y far up) (raised-balanced d c t q near y far up h r allowed (a .3))
+    sibling red near y far allowed r again =
+        rw (refill-red t d c q near y far up) (raised-balanced d c t q near y far up h r allowed (a .3))
 
 -- a node with one child at most: the child takes its place
 mend-balanced : (d : Side) (c : Color) (t : Tree) (x : ℕ) (w : List Frame) → Balanced (plug (nod d c t x leaf) w)
     → Balanced (mend c t w)
 unfolding mend
-mend-balanced d c t x w b = let u = unplug t (frame d c x leaf ∷ w) b in go c t (u .around .1 .rank) (u .ranked) (u .fits) (u .around .3)
+mend-balanced d c t x w b =
+    let u = unplug t (frame d c x leaf ∷ w) b in go c t (u .around .1 .rank) (u .ranked) (u .fits) (u .around .3)
   where
     go : (c : Color) (t : Tree) → 0 ≡ blacks t → Ranked (blacks t) t → Allowed c (tint t)
         → Around (dark c (blacks t)) w → Balanced (mend c t w)
@@ -90,7 +96,8 @@ mend-balanced d c t x w b = let u = unplug t (frame d c x leaf ∷ w) b in go c 
     go red (node red l y r) e h o a = absurd o
     go red (node black l y r) e h o a = absurd (omega arith)
     go black leaf e h o a = refill-balanced 0 leaf w refl h a
-    go black (node red l y r) e h o a = plug-balanced (node black l y r) w (ranked-paint (node red l y r) refl h) a (fits-black w)
+    go black (node red l y r) e h o a =
+        plug-balanced (node black l y r) w (ranked-paint (node red l y r) refl h) a (fits-black w)
     go black (node black l y r) e h o a = absurd (omega arith)
 
 -- balance doesn't look at slots
@@ -110,5 +117,8 @@ takeOut-balanced c (node k a y b′) x leaf w b = mend-balanced lft c (node k a 
 takeOut-balanced c (node k a y b′) x (node q l z r) w b =
     let l′ = node k a y b′ in let f = firstOf q l z r [] in
     mend-balanced rgt (f .color) (f .right) (f .slot) (f .way ++ frame rgt c (f .slot) l′ ∷ w)
-    (rw (plug-append (node (f .color) leaf (f .slot) (f .right)) (f .way) (frame rgt c (f .slot) l′ ∷ w), first-plug q l z r [])
+    (rw (
+      plug-append (node (f .color) leaf (f .slot) (f .right)) (f .way) (frame rgt c (f .slot) l′ ∷ w),
+      first-plug q l z r [],
+    )
     (renamed-balanced c l′ x (f .slot) (node q l z r) w b))

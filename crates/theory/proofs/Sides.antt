@@ -2,7 +2,7 @@
 use Prim.Native.Nat.{ℕ}
 use mathlib.Core.Path.{_≡_, refl, sym}
 use mathlib.Core.Bool.{true, true≢false}
-use Rattle.model.specs.Tree.{Side, lft, rgt, Color, red, black, Tree, leaf, node, opp, nod, childTree, isRed, rotate}
+use Rattle.model.specs.Tree.{Side, lft, rgt, Color, red, black, Tree, leaf, node, opp, nod, childTree, isRed}
 
 pub opp-opp : (d : Side) → opp (opp d) ≡ d
 opp-opp lft = refl
@@ -35,9 +35,3 @@ child-near rgt c near x far = refl
 pub child-far : (d : Side) (c : Color) (near : Tree) (x : ℕ) (far : Tree) → childTree (opp d) (nod d c near x far) ≡ far
 child-far lft c near x far = refl
 child-far rgt c near x far = refl
-
--- the far child comes up
-pub rotate-nod : (d : Side) (c k : Color) (a : Tree) (x : ℕ) (b : Tree) (y : ℕ) (e : Tree)
-    → rotate d (nod d c a x (nod d k b y e)) ≡ nod d k (nod d c a x b) y e
-rotate-nod lft c k a x b y e = refl
-rotate-nod rgt c k a x b y e = refl

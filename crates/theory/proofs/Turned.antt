@@ -1,11 +1,12 @@
 -- Rotations, counted. Painting keeps the shape of a tree, and the trees that rotations lead to have its in-order list.
 use Prim.Native.Nat.{ℕ, suc, _≤_}
 use mathlib.Core.Path.{_≡_, refl, ap, sym, _∙_}
-use mathlib.Core.List.{List, [], _∷_, _++_, append-assoc}
+use mathlib.Core.List.{List, [], _∷_, append-assoc}
 use native.Mathlib.Omega.{arith}
 use Rattle.model.specs.Tree.{Side, lft, rgt, Color, red, Tree, leaf, node, nod, paint, paintChild, rotate, slots, Frame}
 use Rattle.model.specs.Tree.{frame, plug}
 use Rattle.model.specs.Shape.{shape, Turned, still, turn, TurnedAtMost}
+use Rattle.theory.proofs.Lists.{slots-around}
 
 -- ---- shapes
 
@@ -48,10 +49,8 @@ shape-rotate rgt (node c (node k a x b) y e) = refl
 
 -- ---- in-order lists
 
-pub slots-plug : (t u : Tree) (w : List Frame) → slots t ≡ slots u → slots (plug t w) ≡ slots (plug u w)
-slots-plug t u [] e = e
-slots-plug t u (frame lft c p s ∷ w) e = slots-plug (node c t p s) (node c u p s) w (ap (λ (L : List ℕ). L ++ p ∷ slots s) e)
-slots-plug t u (frame rgt c p s ∷ w) e = slots-plug (node c s p t) (node c s p u) w (ap (λ (L : List ℕ). slots s ++ p ∷ L) e)
+slots-plug : (t u : Tree) (w : List Frame) → slots t ≡ slots u → slots (plug t w) ≡ slots (plug u w)
+slots-plug t u w e = rw (slots-around t w, slots-around u w, e)
 
 slots-shape : (t : Tree) → slots (shape t) ≡ slots t
 slots-shape leaf = refl

@@ -3,8 +3,8 @@ use Prim.Native.Nat.{ℕ, zero, suc, _+_, _*_}
 use lib.Dec.{eqb}
 use Rattle.model.specs.Branch.{pick}
 use Rattle.model.specs.Tree.{Side, lft, rgt, opp}
-use Rattle.theory.specs.Links.{Links, childIn, parentIn, colorIn, redIn, sideIn, setChild, setPc, setParent}
-use Rattle.theory.specs.Links.{setColor, setRoot}
+use Rattle.theory.specs.Links.{Links, childIn, parentIn, colorIn, redIn, sideIn}
+use Rattle.theory.specs.Links.{setChild, setPc, setParent, setColor, setRoot}
 
 -- ---- one slot and its surroundings
 
@@ -76,6 +76,10 @@ postInsert (suc n) k x =
     let u = childIn (opp d) k g in
     let climbs = pick (redIn k u) (postInsert n (recolor k p g u) g) (finish d k x p) in
     pick (eqb p 0) k (pick (eqb (colorIn k p) 0) climbs k)
+
+-- x is inserted under the parent on the side d, or as the first node where the parent is 0
+unfoldable pub insertAt : (n : ℕ) → Links → (parent : ℕ) → Side → (x : ℕ) → Links
+insertAt n k p d x = pick (eqb p 0) (plantIn k x) (postInsert n (hangIn d k p x) x)
 
 -- ---- replace_with
 
@@ -173,6 +177,10 @@ rise d (suc n) k s = let p = parentIn k s in pick (eqb p 0) 0 (pick (eqb (childI
 
 unfoldable pub stepTo : Side → (n : ℕ) → Links → (s : ℕ) → ℕ
 stepTo d n k s = let c = childIn d k s in pick (eqb c 0) (rise (opp d) n k s) (endOf (opp d) n k c)
+
+-- from 0 the first on the way
+unfoldable pub walkTo : Side → (n : ℕ) → Links → (position : ℕ) → ℕ
+walkTo d n k s = pick (eqb s 0) (pick (eqb (k .root) 0) 0 (endOf (opp d) n k (k .root))) (stepTo d n k s)
 
 unfoldable pub removeAt : (fuel : ℕ) → Links → (x : ℕ) → Links
 removeAt fuel k x =
