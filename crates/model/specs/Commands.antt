@@ -18,7 +18,7 @@ pub data Command : Type 0 where
   replaceWith : (position slot key : ℕ) → Command
   clear : Command
 
--- a bound's kind, a position, whether position 0 is refused, and a new slot; `none` where the operation has no such field
+-- a bound's kind, a position, whether position 0 is refused, and a new slot; `none` where the operation names none
 pub record Fields : Type 0 where
   pub kind : Option ℕ
   pub position : Option ℕ

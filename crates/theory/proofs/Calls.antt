@@ -1,5 +1,5 @@
--- Demand 1: a call gives each code exactly when the first row of the refusal table that applies says so, and a call that
--- is refused changes nothing and answers two zeros beside its code.
+-- Demand 1: a call gives each code exactly when the first row of the refusal table that applies says so, and a call
+-- that is refused changes nothing and answers two zeros beside its code.
 use Prim.Native.Nat.{ℕ, _*_, _%_, _<_}
 use native.Mathlib.Omega.{arith}
 use mathlib.Core.Path.{_≡_, refl, ap, sym, _∙_}
@@ -33,7 +33,8 @@ accepted-done c m = accept-done c (keyOf (m .arrays)) (treeOf m) m
 
 -- a refused outcome, or the accepted one
 pub unless-cases : (c : Code) (m : Lent) (o : Outcome)
-    → ((c ≡ done) × (unlessRefused c m (λ _. o) ≡ o)) ⊎ ((isDone c ≡ false) × (unlessRefused c m (λ _. o) ≡ refused c m))
+    → ((c ≡ done) × (unlessRefused c m (λ _. o) ≡ o))
+    ⊎ ((isDone c ≡ false) × (unlessRefused c m (λ _. o) ≡ refused c m))
 unfolding unlessRefused
 unless-cases c m o = ⊎-elim (λ e. inl (e, rw e)) (λ e. inr (e, rw e)) (code-cases c)
 
@@ -119,10 +120,12 @@ batch-gives input buffer m = whole (eqb (length input % recordSize) 0) refl
     long true e f = rw (f, e) (inl (inr (ltb-true batchLimit (length input) e), refl))
     long false e f =
         roomy (ltb (length buffer) (answerSize * records input)) refl
-        (⊎-elim (λ z. z (eqb-true (length input % recordSize) 0 f)) (λ z. omega (arith, ltb-false batchLimit (length input) e)))
+        (⊎-elim (λ z. z (eqb-true (length input % recordSize) 0 f))
+        (λ z. omega (arith, ltb-false batchLimit (length input) e)))
         (rw (f, e))
 
-    whole : (b : Bool) → eqb (length input % recordSize) 0 ≡ b → Gives (batchRows input buffer m) (batch input buffer m .code)
+    whole : (b : Bool) → eqb (length input % recordSize) 0 ≡ b
+        → Gives (batchRows input buffer m) (batch input buffer m .code)
     whole true e = long (ltb batchLimit (length input)) refl e
     whole false e = rw e (inl (inl (eqb-false (length input % recordSize) 0 e), refl))
 

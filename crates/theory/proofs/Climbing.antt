@@ -8,8 +8,8 @@ use lib.Dec.{eqb}
 use lib.ListN.{length}
 use borrow.Author.Tests.{ne-eqb}
 use Rattle.model.specs.Branch.{pick}
-use Rattle.model.specs.Tree.{Side, lft, rgt, Color, red, black, Tree, leaf, node, opp, nod, topOf, isRed}
-use Rattle.model.specs.Tree.{Frame, frame, plug, above}
+use Rattle.model.specs.Tree.{Side, lft, rgt, Color, red, black, Tree, leaf, node, opp, nod, topOf, isRed, Frame, frame}
+use Rattle.model.specs.Tree.{plug, above}
 use Rattle.model.specs.Lent.{colorCode}
 use Rattle.model.specs.Hanging.{crown, straighten, turnOver, climb}
 use Rattle.theory.specs.Balance.{Topped}
@@ -20,8 +20,8 @@ use Rattle.theory.proofs.Counts.{slot-low}
 use Rattle.theory.proofs.Hanging.{Rests, overturned, recoloured, climb-by}
 use Rattle.theory.proofs.Rotating.{rotate-drawn, rotate-sound}
 use Rattle.theory.proofs.Reading.{far-drawn, parent-drawn, color-drawn, set-pc-drawn, paint-drawn, paint-sound}
-use Rattle.theory.proofs.Reading.{top-parent}
-use Rattle.theory.proofs.Reading.{paint-far-drawn, paint-far-sound, far-red-drawn, on-drawn, side-drawn}
+use Rattle.theory.proofs.Reading.{top-parent, paint-far-drawn, paint-far-sound, far-red-drawn, on-drawn}
+use Rattle.theory.proofs.Reading.{side-drawn}
 
 -- a rotation that brings p, on the side e of g, up
 pub raise-drawn : {C : ℕ} (e : Side) (cp : Color) (t : Tree) (p : ℕ) (s : Tree) (cg : Color) (g : ℕ) (u : Tree)

@@ -20,6 +20,7 @@ use Rattle.model.specs.Shape.{PathFits}
 use Rattle.theory.specs.Holds.{Holds}
 use Rattle.theory.specs.Demands.{Means, Stands}
 use Rattle.theory.specs.After.{Result, treeAfter}
+use Rattle.theory.proofs.Branch.{clash}
 use Rattle.theory.proofs.Check.{check-complete}
 use Rattle.theory.proofs.Holds.{well-holds, holds-well, holds-tree}
 use Rattle.theory.proofs.Empty.{empty-well}
@@ -29,9 +30,6 @@ use Rattle.theory.proofs.Results.{result}
 use Rattle.theory.proofs.Refusals.{refusal-gives, refusal-done, done-rising}
 use Rattle.theory.proofs.Height.{height-fits}
 use Rattle.theory.proofs.Calls.{unless-cases}
-
-clash : {P : Type 0} → false ≡ true → P
-clash e = let z : _≡_ {A = ℕ} 0 1 = cc in absurd (omega arith)
 
 -- the codes of some rows
 abbrev CodeIn : Code → List Row → Type 0
@@ -114,7 +112,8 @@ module _ {m : Lent} (well : WellFormed m) (c : Command) where
   pub perform-never : perform c m .answer .code ≢ damaged
   perform-never e = ⊎-elim
       (λ h. let z : _≡_ {A = ℕ} 0 1 =
-      let w : done ≡ damaged = sym (outcome-is (h .0) .code) ∙ ap (λ (o : Outcome). o .answer .code) (sym (h .1)) ∙ e in cc in
+      let w : done ≡ damaged =
+      sym (outcome-is (h .0) .code) ∙ ap (λ (o : Outcome). o .answer .code) (sym (h .1)) ∙ e in cc in
       omega arith)
       (λ h. never-damaged c m
       (rw (ap (λ (o : Outcome). o .answer .code) (sym (h .1)) ∙ e) at (refusal-gives held c))) perform-cases

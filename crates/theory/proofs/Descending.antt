@@ -8,9 +8,9 @@ use lib.Dec.{eqb}
 use borrow.Author.Tests.{eqb-true, ne-eqb}
 use Rattle.model.specs.Tree.{Side, lft, rgt, Color, Tree, leaf, node, nod, Frame, frame, framed, plug}
 use Rattle.model.specs.Draw.{lay, draw}
-use Rattle.model.specs.Descent.{Step, leftward, rightward, halt, follow, landing, descend, path, probes}
-use Rattle.model.specs.Descent.{insertStep, findStep, lowerStep, upperStep, insertLanding, lowerLanding, lowerSlot}
-use Rattle.model.specs.Descent.{upperLanding, upperSlot, findLanding, entryAt, entryOf, entryFor, cursorOf, findSlot}
+use Rattle.model.specs.Descent.{Step, leftward, rightward, halt, follow, landing, descend, path, probes, insertStep}
+use Rattle.model.specs.Descent.{findStep, lowerStep, upperStep, insertLanding, lowerLanding, lowerSlot, upperLanding}
+use Rattle.model.specs.Descent.{upperSlot, findLanding, entryAt, entryOf, entryFor, cursorOf, findSlot}
 use Rattle.theory.specs.Balance.{height}
 use Rattle.theory.specs.Sound.{Sound}
 use Rattle.theory.specs.Links.{drawn}

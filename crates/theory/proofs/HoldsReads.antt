@@ -14,6 +14,7 @@ use Rattle.model.specs.Lent.{isLinked}
 use Rattle.theory.specs.Sound.{count}
 use Rattle.theory.specs.Holds.{Holds}
 use Rattle.theory.specs.Hangs.{Hangs, Clear}
+use Rattle.theory.proofs.Branch.{clash}
 use Rattle.theory.proofs.Lists.{count-member, member-count}
 use Rattle.theory.proofs.Marks.{marked-parent, marked-color}
 use Rattle.theory.proofs.Hangs.{hangs-top, hangs-below, hangs-place}
@@ -66,12 +67,9 @@ module _ {m : Lent} {t : Tree} (h : Holds m t) where
   pub is-linked : (s : ℕ) → 0 < s → isLinked (m .arrays) s ≡ eqb (count t s) 1
   is-linked s low = go (isLinked (m .arrays) s) refl
     where
-      clash : isLinked (m .arrays) s ≡ true → isLinked (m .arrays) s ≡ false → ⊥
-      clash e f = let z : _≡_ {A = ℕ} 0 1 = cc in omega arith
-
       go : (b : Bool) → isLinked (m .arrays) s ≡ b → b ≡ eqb (count t s) 1
       go true e = sym (eq-eqb (count t s) 1 (linked-count s (true-linked low e)))
-      go false e = sym (ne-eqb (count t s) 1 (λ one. clash (linked-true (count-linked s one)) e))
+      go false e = sym (ne-eqb (count t s) 1 (λ one. clash (sym e ∙ linked-true (count-linked s one))))
 
   pub true-count : (s : ℕ) → 0 < s → isLinked (m .arrays) s ≡ true → count t s ≡ 1
   true-count s low e = linked-count s (true-linked low e)

@@ -22,7 +22,8 @@ use Rattle.theory.proofs.HoldsReads.{linked-in, in-linked}
 use Rattle.theory.proofs.Orderly.{after-orderly, before-orderly, replace-orderly}
 
 -- a call whose tests give a code is refused with it, and one that passes them is the accepted command
-pub operate-refused : (c : Command) (m : Lent) (r : Code) → refusal c m ≡ r → isDone r ≡ false → operate c m ≡ refused r m
+pub operate-refused : (c : Command) (m : Lent) (r : Code) → refusal c m ≡ r → isDone r ≡ false
+    → operate c m ≡ refused r m
 unfolding operate unlessRefused
 operate-refused c m r e f = rw (e, f)
 
@@ -57,11 +58,15 @@ module _ (m : Lent) where
 
   pub tests-lower : (b k : ℕ) → refusal (lowerBound b k) m ≡ kindTest (some b)
   unfolding refusal positionTest slotTest orderTest
-  tests-lower b k = ap (λ (r : Code). thenTest (kindTest (some b)) (λ _. r)) (then-first _ ∙ then-first _) ∙ then-last (kindTest (some b))
+  tests-lower b k =
+      ap (λ (r : Code). thenTest (kindTest (some b)) (λ _. r)) (then-first _ ∙ then-first _)
+      ∙ then-last (kindTest (some b))
 
   pub tests-upper : (b k : ℕ) → refusal (upperBound b k) m ≡ kindTest (some b)
   unfolding refusal positionTest slotTest orderTest
-  tests-upper b k = ap (λ (r : Code). thenTest (kindTest (some b)) (λ _. r)) (then-first _ ∙ then-first _) ∙ then-last (kindTest (some b))
+  tests-upper b k =
+      ap (λ (r : Code). thenTest (kindTest (some b)) (λ _. r)) (then-first _ ∙ then-first _)
+      ∙ then-last (kindTest (some b))
 
   pub tests-remove : (p : ℕ) → refusal (remove p) m ≡ positionTest true (some p) (m .arrays)
   unfolding refusal kindTest slotTest orderTest

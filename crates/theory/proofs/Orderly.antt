@@ -1,4 +1,5 @@
--- OutOfOrder as the code tests it: for each operation that places a key at a position, the keys of the two slots beside it.
+-- OutOfOrder as the code tests it: each operation that places a key at a position compares it with the keys of the two
+-- slots beside the place.
 use Prim.Native.Nat.{ℕ}
 use mathlib.Core.Path.{_≡_, refl, ap, sym, _∙_}
 use mathlib.Core.Logic.{_≢_, _⊎_, inl, inr}
@@ -48,78 +49,78 @@ absent-early x A B absent m = absent (Memᴰ·append-left B m)
 absent-late : (x : ℕ) (A B : List ℕ) → ¬ List·Memᴰ x (A ++ B) → ¬ List·Memᴰ x B
 absent-late x A B absent m = absent (Memᴰ·append-right A m)
 
-module _ (key : ℕ → ℕ) (s k : ℕ) (L : List ℕ) (fresh : ¬ List·Memᴰ s L) (some : ¬ List·Memᴰ 0 L) (rising : Rising key 0 L)
-  where
-    -- a slot put into the list where it is cut in two
-    cut : (A B : List ℕ) → L ≡ A ++ B
-        → risesFrom 0 (stored s k key) (A ++ s ∷ B) ≡ between key (firstSlot (reverse A)) k (firstSlot B)
-    cut A B whole =
-        let parts = rising-split key 0 A B (rw whole at rising) in
-        rises-between key s k A B
-        (absent-early s A B (rw whole at fresh)) (absent-late s A B (rw whole at fresh))
-        (absent-early 0 A B (rw whole at some)) (absent-late 0 A B (rw whole at some))
-        (parts .0) (rising-lower key 0 (lastKey key 0 A) B (omega arith) (parts .1))
+module _ (key : ℕ → ℕ) (s k : ℕ) (L : List ℕ) (fresh : ¬ List·Memᴰ s L) (some : ¬ List·Memᴰ 0 L)
+    (rising : Rising key 0 L) where
+  -- a slot put into the list where it is cut in two
+  cut : (A B : List ℕ) → L ≡ A ++ B
+      → risesFrom 0 (stored s k key) (A ++ s ∷ B) ≡ between key (firstSlot (reverse A)) k (firstSlot B)
+  cut A B whole =
+      let parts = rising-split key 0 A B (rw whole at rising) in
+      rises-between key s k A B
+      (absent-early s A B (rw whole at fresh)) (absent-late s A B (rw whole at fresh))
+      (absent-early 0 A B (rw whole at some)) (absent-late 0 A B (rw whole at some))
+      (parts .0) (rising-lower key 0 (lastKey key 0 A) B (omega arith) (parts .1))
 
-    module _ (p : ℕ) where
-      module _ (v : Split p L) where
-        -- the slots beside p
-        next-is : p ≢ 0 → nextIn p L ≡ firstSlot (v .late)
-        unfolding nextIn
-        next-is there =
-            rw (ne-eqb p 0 there, v .whole) (following-at (v .early) p (v .late) (v .alone .0))
+  module _ (p : ℕ) where
+    module _ (v : Split p L) where
+      -- the slots beside p
+      next-is : p ≢ 0 → nextIn p L ≡ firstSlot (v .late)
+      unfolding nextIn
+      next-is there =
+          rw (ne-eqb p 0 there, v .whole) (following-at (v .early) p (v .late) (v .alone .0))
 
-        prev-is : p ≢ 0 → prevIn p L ≡ firstSlot (reverse (v .early))
-        unfolding prevIn nextIn
-        prev-is there =
-            rw (ne-eqb p 0 there, v .whole, reverse-at (v .early) p (v .late))
-            (following-at (reverse (v .late)) p (reverse (v .early)) (λ m. v .alone .1 (member-reverse p (v .late) m)))
+      prev-is : p ≢ 0 → prevIn p L ≡ firstSlot (reverse (v .early))
+      unfolding prevIn nextIn
+      prev-is there =
+          rw (ne-eqb p 0 there, v .whole, reverse-at (v .early) p (v .late))
+          (following-at (reverse (v .late)) p (reverse (v .early)) (λ m. v .alone .1 (member-reverse p (v .late) m)))
 
-        after-split : p ≢ 0 → keepsOrder key (insertAfter p s k) L ≡ between key p k (nextIn p L)
-        unfolding keepsOrder keyAfter listAfter afterIn
-        after-split there =
-            rw (
-              ne-eqb p 0 there,
-              next-is there,
-              ap (exchange p (p ∷ s ∷ [])) (v .whole) ∙ exchange-at (v .early) p (p ∷ s ∷ []) (v .late) (v .alone .0)
-                  ∙ sym (append-assoc (v .early) (p ∷ []) (s ∷ v .late)),
-            )
-            (cut (v .early ++ p ∷ []) (v .late) (v .whole ∙ sym (append-assoc (v .early) (p ∷ []) (v .late)))
-            ∙ ap (λ (z : ℕ). between key z k (firstSlot (v .late))) (ap firstSlot (reverse-at (v .early) p [])))
+      after-split : p ≢ 0 → keepsOrder key (insertAfter p s k) L ≡ between key p k (nextIn p L)
+      unfolding keepsOrder keyAfter listAfter afterIn
+      after-split there =
+          rw (
+            ne-eqb p 0 there,
+            next-is there,
+            ap (exchange p (p ∷ s ∷ [])) (v .whole) ∙ exchange-at (v .early) p (p ∷ s ∷ []) (v .late) (v .alone .0)
+                ∙ sym (append-assoc (v .early) (p ∷ []) (s ∷ v .late)),
+          )
+          (cut (v .early ++ p ∷ []) (v .late) (v .whole ∙ sym (append-assoc (v .early) (p ∷ []) (v .late)))
+          ∙ ap (λ (z : ℕ). between key z k (firstSlot (v .late))) (ap firstSlot (reverse-at (v .early) p [])))
 
-        before-split : p ≢ 0 → keepsOrder key (insertBefore p s k) L ≡ between key (prevIn p L) k p
-        unfolding keepsOrder keyAfter listAfter beforeIn
-        before-split there =
-            rw (
-              ne-eqb p 0 there,
-              prev-is there,
-              ap (exchange p (s ∷ p ∷ [])) (v .whole) ∙ exchange-at (v .early) p (s ∷ p ∷ []) (v .late) (v .alone .0),
-            )
-            (cut (v .early) (p ∷ v .late) (v .whole))
+      before-split : p ≢ 0 → keepsOrder key (insertBefore p s k) L ≡ between key (prevIn p L) k p
+      unfolding keepsOrder keyAfter listAfter beforeIn
+      before-split there =
+          rw (
+            ne-eqb p 0 there,
+            prev-is there,
+            ap (exchange p (s ∷ p ∷ [])) (v .whole) ∙ exchange-at (v .early) p (s ∷ p ∷ []) (v .late) (v .alone .0),
+          )
+          (cut (v .early) (p ∷ v .late) (v .whole))
 
-        replace-split : p ≢ 0 → keepsOrder key (replaceWith p s k) L ≡ between key (prevIn p L) k (nextIn p L)
-        unfolding keepsOrder keyAfter listAfter
-        replace-split there =
-            let front = rw (v .whole) at rising in
-            rw (
-              prev-is there,
-              next-is there,
-              ap (exchange p (s ∷ [])) (v .whole) ∙ exchange-at (v .early) p (s ∷ []) (v .late) (v .alone .0),
-            )
-            (rises-between key s k (v .early) (v .late)
-            (absent-early s (v .early) (p ∷ v .late) (rw (v .whole) at fresh))
-            (λ m. absent-late s (v .early) (p ∷ v .late) (rw (v .whole) at fresh) (List·Memᴰ·tail m))
-            (absent-early 0 (v .early) (p ∷ v .late) (rw (v .whole) at some))
-            (λ m. absent-late 0 (v .early) (p ∷ v .late) (rw (v .whole) at some) (List·Memᴰ·tail m))
-            (rising-front key 0 (v .early) (p ∷ v .late) front)
-            (rising-lower key 0 (key p) (v .late) (omega arith) (rising-rest key 0 (v .early) p (v .late) front)))
+      replace-split : p ≢ 0 → keepsOrder key (replaceWith p s k) L ≡ between key (prevIn p L) k (nextIn p L)
+      unfolding keepsOrder keyAfter listAfter
+      replace-split there =
+          let front = rw (v .whole) at rising in
+          rw (
+            prev-is there,
+            next-is there,
+            ap (exchange p (s ∷ [])) (v .whole) ∙ exchange-at (v .early) p (s ∷ []) (v .late) (v .alone .0),
+          )
+          (rises-between key s k (v .early) (v .late)
+          (absent-early s (v .early) (p ∷ v .late) (rw (v .whole) at fresh))
+          (λ m. absent-late s (v .early) (p ∷ v .late) (rw (v .whole) at fresh) (List·Memᴰ·tail m))
+          (absent-early 0 (v .early) (p ∷ v .late) (rw (v .whole) at some))
+          (λ m. absent-late 0 (v .early) (p ∷ v .late) (rw (v .whole) at some) (List·Memᴰ·tail m))
+          (rising-front key 0 (v .early) (p ∷ v .late) front)
+          (rising-lower key 0 (key p) (v .late) (omega arith) (rising-rest key 0 (v .early) p (v .late) front)))
 
-    after-zero : keepsOrder key (insertAfter 0 s k) L ≡ between key 0 k (nextIn 0 L)
-    unfolding keepsOrder keyAfter listAfter afterIn nextIn
-    after-zero = cut [] L refl
+  after-zero : keepsOrder key (insertAfter 0 s k) L ≡ between key 0 k (nextIn 0 L)
+  unfolding keepsOrder keyAfter listAfter afterIn nextIn
+  after-zero = cut [] L refl
 
-    before-zero : keepsOrder key (insertBefore 0 s k) L ≡ between key (prevIn 0 L) k 0
-    unfolding keepsOrder keyAfter listAfter beforeIn prevIn nextIn
-    before-zero = cut L [] (sym (append-nil L))
+  before-zero : keepsOrder key (insertBefore 0 s k) L ≡ between key (prevIn 0 L) k 0
+  unfolding keepsOrder keyAfter listAfter beforeIn prevIn nextIn
+  before-zero = cut L [] (sym (append-nil L))
 
 -- ---- on a tree whose keys rise
 

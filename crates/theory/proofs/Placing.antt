@@ -26,7 +26,8 @@ rises-later key s k [] fresh some rising = refl
 rises-later key s k (y ∷ B) fresh some rising =
     rw (
       ← stored-other s k key (y ∷ B) fresh y (List·Memᴰ·head refl),
-      rising-rises (stored s k key) (key y) B (rising-stored key (key y) s k B (λ m. fresh (List·Memᴰ·tail m)) (rising .1)),
+      rising-rises (stored s k key) (key y) B
+          (rising-stored key (key y) s k B (λ m. fresh (List·Memᴰ·tail m)) (rising .1)),
       ne-eqb y 0 (λ e. some (List·Memᴰ·head (sym e))),
     )
     (if-true (leb k (key y)))

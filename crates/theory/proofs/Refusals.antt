@@ -20,6 +20,7 @@ use Rattle.model.specs.Operations.{accepted}
 use Rattle.model.specs.Refusals.{Row, row, Gives, positionRows, slotRows, orderRow, recordRows}
 use Rattle.theory.specs.Holds.{Holds}
 use Rattle.theory.specs.After.{Admitted, Result, treeAfter}
+use Rattle.theory.proofs.Branch.{clash}
 use Rattle.theory.proofs.HoldsReads.{linked-in, in-linked}
 use Rattle.theory.proofs.Orders.{orderTest-placed, orderTest-rising, rising-orderTest}
 use Rattle.theory.proofs.Finds.{sameEntry-same, sameEntry-refl}
@@ -27,9 +28,6 @@ use Rattle.theory.proofs.Results.{result}
 use Rattle.theory.proofs.After.{result-w4, w4-result}
 use Rattle.theory.proofs.Tests.{then-gives, kind-decides, PositionFits, position-decides, SlotFits, slot-decides}
 use Rattle.theory.proofs.Tests.{then-done, position-done, slot-done}
-
-clash : {P : Type 0} → true ≡ false → P
-clash e = let z : _≡_ {A = ℕ} 0 1 = cc in absurd (omega arith)
 
 -- only one code satisfies the rows
 pub gives-one : (rows : List Row) (c d : Code) → Gives rows c → Gives rows d → c ≡ d
@@ -61,7 +59,8 @@ placed-cases : (c : Command) (m : Lent) → (placedTest c m ≡ done) ⊎ (place
 unfolding placedTest
 placed-cases c m = go (keepsOrder (keyOf (m .arrays)) c (slots (treeOf m)))
   where
-    go : (b : Bool) → (choose b (λ _. done) (λ _. outOfOrder) ≡ done) ⊎ (choose b (λ _. done) (λ _. outOfOrder) ≡ outOfOrder)
+    go : (b : Bool) → (choose b (λ _. done) (λ _. outOfOrder) ≡ done)
+        ⊎ (choose b (λ _. done) (λ _. outOfOrder) ≡ outOfOrder)
     go true = inl refl
     go false = inr refl
 
@@ -72,7 +71,7 @@ module _ {m : Lent} (h : Holds m (treeOf m)) where
   admitted c position slot = record {
     position = λ p e. ⊎-elim (λ z. inl (z .0)) (λ here. inr (linked-in h p here)) (position p e);
     node = λ p e needed. ⊎-elim
-        (λ z. clash (sym needed ∙ z .1))
+        (λ z. clash (sym (z .1) ∙ needed))
         (λ here. linked-in h p here) (position p e);
     slot = λ s e. let free = slot s e in (free .0, free .1, λ here. free .2 (in-linked h s here));
   }
@@ -111,8 +110,8 @@ module _ {m : Lent} (h : Holds m (treeOf m)) where
         → Gives (slotRows (fieldsOf c .slot) (m .arrays) (orderRow c m ∷ []))
         (thenTest (slotTest (fieldsOf c .slot) (m .arrays)) λ _. orderTest c m)
     slot-gives position =
-        then-gives (slotRows (fieldsOf c .slot) (m .arrays) (orderRow c m ∷ [])) (slotTest (fieldsOf c .slot) (m .arrays))
-        (orderTest c m)
+        then-gives (slotRows (fieldsOf c .slot) (m .arrays) (orderRow c m ∷ []))
+        (slotTest (fieldsOf c .slot) (m .arrays)) (orderTest c m)
         (slot-decides (fieldsOf c .slot) (m .arrays) (orderRow c m ∷ []) (orderTest c m)
         (λ slot. order-gives c (admitted c position slot)))
 
@@ -146,7 +145,8 @@ module _ {m : Lent} (h : Holds m (treeOf m)) where
   -- ---- or_insert with an entry of its own
   module _ (e : Entry) (s k : ℕ) where
     stale-gives : SlotFits (some s) (m .arrays)
-        → Gives (row stale (e ≢ entryFor (keyOf (m .arrays)) k (treeOf m)) ∷ orderRow (orInsert s k) m ∷ []) (staleTest e k m)
+        → Gives (row stale (e ≢ entryFor (keyOf (m .arrays)) k (treeOf m)) ∷ orderRow (orInsert s k) m ∷ [])
+        (staleTest e k m)
     unfolding staleTest orderTest
     stale-gives slot = go (sameEntry e (entryFor (keyOf (m .arrays)) k (treeOf m))) refl
       where
@@ -158,7 +158,7 @@ module _ {m : Lent} (h : Holds m (treeOf m)) where
             (staleTest e k m)
         go true z = rw z (inr ((λ differ. differ (sameEntry-same e _ z)), order-gives (orInsert s k) ok))
         go false z =
-            rw z (inl ((λ same. let w : true ≡ false = sym (sameEntry-refl e) ∙ ap (sameEntry e) same ∙ z in clash w), refl))
+            rw z (inl ((λ same. clash (sym z ∙ ap (sameEntry e) (sym same) ∙ sameEntry-refl e)), refl))
 
     pub entry-gives : Gives
         (slotRows (some s) (m .arrays)
@@ -190,5 +190,6 @@ module _ {m : Lent} (h : Holds m (treeOf m)) where
 
   -- it leaves rising keys
   pub done-rising : (c : Command) → Admitted c (capacity (m .arrays)) (slots (treeOf m)) → orderTest c m ≡ done
-      → Rising (keyAfter (keyOf (m .arrays)) c (slots (treeOf m))) 0 (listAfter (keyOf (m .arrays)) c (slots (treeOf m)))
+      → Rising (keyAfter (keyOf (m .arrays)) c (slots (treeOf m))) 0
+      (listAfter (keyOf (m .arrays)) c (slots (treeOf m)))
   done-rising c ok e = orderTest-rising c m (fresh c ok) (h .rising) e

@@ -13,12 +13,12 @@ use Rattle.theory.specs.Links.{laid, drawn}
 use Rattle.theory.specs.Programs.{releaseAt, detach, replaceIn}
 use Rattle.theory.proofs.Counts.{one-sym, count-plug, count-nod, count-above, count-apart, sound-less}
 use Rattle.theory.proofs.Counts.{sound-more, slot-once, slot-low, slot-high}
-use Rattle.theory.proofs.Cells.{only-zero, writtenUp, rootUp, writtenUp-none, writtenUp-pc}
+use Rattle.theory.proofs.Cells.{only-zero, writtenUp, rootUp, writtenUp-none, writtenUp-pc, written-nod}
+use Rattle.theory.proofs.Cells.{written-plug, top-plug, read-near, read-far, read-pc}
 use Rattle.theory.proofs.DrawingCells.{written-none}
-use Rattle.theory.proofs.Cells.{written-nod, written-plug, top-plug, read-near, read-far, read-pc}
-use Rattle.theory.proofs.Stores.{laid-child, laid-pc, parent-part, color-part}
-use Rattle.theory.proofs.Stores.{Owned, adopted, adopted-bal, laid-adopt, owned, owned-kept}
-use Rattle.theory.proofs.Stores.{Leads, redirected, redirected-bal, laid-redirect, leads, leads-kept}
+use Rattle.theory.proofs.Stores.{laid-child, laid-pc, parent-part, color-part, Owned, adopted, adopted-bal}
+use Rattle.theory.proofs.Stores.{laid-adopt, owned, owned-kept, Leads, redirected, redirected-bal, laid-redirect}
+use Rattle.theory.proofs.Stores.{leads, leads-kept}
 use Rattle.theory.proofs.Linking.{stored, trio, laid-store, stored-bal, trio-zero, trio-none}
 
 -- the three cells of x, by its near and its far child

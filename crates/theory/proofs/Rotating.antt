@@ -12,12 +12,11 @@ use Rattle.theory.specs.Links.{laid, drawn}
 use Rattle.theory.specs.Programs.{rotateIn}
 use Rattle.theory.proofs.Counts.{one-same, count-plug, count-nod, count-above, sound-less, slot-low, slot-high}
 use Rattle.theory.proofs.Cells.{only-near, only-pc, only-child, update, update-bal, writtenUp, rootUp}
-use Rattle.theory.proofs.DrawingCells.{only-none}
 use Rattle.theory.proofs.Cells.{writtenUp-none, written-nod, written-plug, top-plug, read-near, read-pc}
-use Rattle.theory.proofs.DrawingCells.{written-none}
+use Rattle.theory.proofs.DrawingCells.{only-none, written-none}
 use Rattle.theory.proofs.Stores.{laid-child, laid-pc, laid-set-child, laid-set-pc, parent-part, color-part}
-use Rattle.theory.proofs.Stores.{Owned, adopted, adopted-bal, laid-adopt, owned, owned-kept}
-use Rattle.theory.proofs.Stores.{Leads, redirected, redirected-bal, laid-redirect, leads, leads-kept}
+use Rattle.theory.proofs.Stores.{Owned, adopted, adopted-bal, laid-adopt, owned, owned-kept, Leads, redirected}
+use Rattle.theory.proofs.Stores.{redirected-bal, laid-redirect, leads, leads-kept}
 
 module _ {C : ℕ} (d : Side) (cx : Color) (a : Tree) (x : ℕ) (cy : Color) (b : Tree) (y : ℕ) (c : Tree) (w : List Frame)
     (h : Sound C (plug (nod (opp d) cx (nod d cy b y c) x a) w)) where

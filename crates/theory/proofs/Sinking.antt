@@ -20,9 +20,8 @@ use Rattle.theory.proofs.Counts.{slot-low}
 use Rattle.theory.proofs.Refill.{below-by, refill-red, refill-black}
 use Rattle.theory.proofs.Rotating.{rotate-drawn, rotate-sound}
 use Rattle.theory.proofs.Reading.{near-drawn, far-drawn, parent-drawn, color-drawn, set-pc-drawn, paint-drawn}
-use Rattle.theory.proofs.Reading.{paint-sound}
-use Rattle.theory.proofs.Reading.{far-parent, paint-far-drawn, paint-far-sound, far-red-drawn, near-red-drawn}
-use Rattle.theory.proofs.Reading.{side-drawn}
+use Rattle.theory.proofs.Reading.{paint-sound, far-parent, paint-far-drawn, paint-far-sound, far-red-drawn}
+use Rattle.theory.proofs.Reading.{near-red-drawn, side-drawn}
 use Rattle.theory.proofs.Climbing.{raise-drawn, raise-sound}
 
 -- q, with its child s, which has the colour k, and the place t on the side d

@@ -14,12 +14,10 @@ use Rattle.model.specs.Answers.{Code, done, damaged, badSlot, alreadyLinked, no
 use Rattle.model.specs.Answers.{badRecord, badLength, short, badCode, isDone, kindTest, positionTest, slotTest}
 use Rattle.model.specs.Answers.{thenTest}
 use Rattle.model.specs.Refusals.{Row, row, Gives, Named, positionRows, slotRows}
+use Rattle.theory.proofs.Branch.{clash}
 use Rattle.theory.proofs.HoldsReads.{linked-true, true-linked}
 
 -- ---- codes
-
-clash : {P : Type 0} → false ≡ true → P
-clash e = let z : _≡_ {A = ℕ} 0 1 = cc in absurd (omega arith)
 
 -- a code is Done, or tests as another
 pub code-cases : (c : Code) → (c ≡ done) ⊎ (isDone c ≡ false)
@@ -46,11 +44,8 @@ unfolding thenTest
 then-gives rows test after (inl given) = rw (given .0) (given .1)
 then-gives rows test after (inr passed) = rw (passed .0) (passed .1)
 
--- a row that does not apply
-pub skip : (r : Row) (rows : List Row) (test after : Code) → (¬ (r .when)) → Decides rows test after
-    → Decides (r ∷ rows) test after
-skip r rows test after unless (inl given) = inl (given .0, inr (unless, given .1))
-skip r rows test after unless (inr passed) = inr (passed .0, inr (unless, passed .1))
+some-is : {p q : ℕ} → some p ≡ some q → q ≡ p
+some-is e = cc
 
 -- ---- the kind of a bound
 
@@ -66,60 +61,100 @@ kind-decides (some k) rest after g = go (leb k 2) refl
 
 -- ---- the position
 
+-- how the test of a position ends: past the slots, at 0 where a node is needed, at a slot that is not linked, or passed
+data PositionEnd (needed : Bool) (p : ℕ) (a : Arrays) (test : Code) : Type 0 where
+  past : capacity a < p → test ≡ badSlot → PositionEnd needed p a test
+  null : p ≡ 0 → T needed → test ≡ nullCursor → PositionEnd needed p a test
+  free : 0 < p → p ≤ capacity a → ¬ Linked a p → test ≡ notLinked → PositionEnd needed p a test
+  passed : ((p ≡ 0) × (needed ≡ false)) ⊎ Linked a p → p ≤ capacity a → test ≡ done → PositionEnd needed p a test
+
+position-end : (needed : Bool) (p : ℕ) (a : Arrays) → PositionEnd needed p a (positionTest needed (some p) a)
+unfolding positionTest
+position-end needed p a = large (ltb (capacity a) p) refl
+  where
+    linked : (b : Bool) → isLinked a p ≡ b → p ≤ capacity a → 0 < p
+        → PositionEnd needed p a (choose b (λ _. done) (λ _. notLinked))
+    linked true e high low = passed (inr (true-linked low e)) high refl
+    linked false e high low = free low high (λ here. clash (sym e ∙ linked-true here)) refl
+
+    zero : (b : Bool) → eqb p 0 ≡ b → (n : Bool) → needed ≡ n → p ≤ capacity a
+        → PositionEnd needed p a
+        (choose b (λ _. choose n (λ _. nullCursor) (λ _. done)) λ _. choose (isLinked a p) (λ _. done) (λ _. notLinked))
+    zero true e true f high = null (eqb-true p 0 e) (rw f tt) refl
+    zero true e false f high = passed (inl (eqb-true p 0 e, f)) high refl
+    zero false e n f high =
+        let some : p ≡ 0 → ⊥ = eqb-false p 0 e in linked (isLinked a p) refl high (omega arith)
+
+    large : (b : Bool) → ltb (capacity a) p ≡ b → PositionEnd needed p a (positionTest needed (some p) a)
+    large true e = rw e (past (ltb-true (capacity a) p e) refl)
+    large false e = rw e (zero (eqb p 0) refl needed refl (ltb-false (capacity a) p e))
+
 -- a position that passes is linked, or 0 where no node is needed
 abbrev pub PositionFits : Bool → Option ℕ → Arrays → Type 0
 PositionFits needed position a = (p : ℕ) → position ≡ some p → ((p ≡ 0) × (needed ≡ false)) ⊎ Linked a p
-
-some-is : {p q : ℕ} → some p ≡ some q → q ≡ p
-some-is e = cc
 
 pub position-decides : (needed : Bool) (position : Option ℕ) (a : Arrays) (rest : List Row) (after : Code)
     → (PositionFits needed position a → Gives rest after)
     → Decides (positionRows needed position a rest) (positionTest needed position a) after
 unfolding positionTest
 position-decides needed none a rest after g =
-    inr (refl, inr ((λ z. z), inr ((λ z. z), inr ((λ z. z), g (λ p e. let z : _≡_ {A = ℕ} 0 1 = cc in absurd (omega arith))))))
-position-decides needed (some p) a rest after g = large (ltb (capacity a) p) refl
+    inr (refl, inr ((λ z. z), inr ((λ z. z), inr ((λ z. z), g (λ p e. clash (cc))))))
+position-decides needed (some p) a rest after g = go (positionTest needed (some p) a) (position-end needed p a)
   where
-    fits : ((p ≡ 0) × (needed ≡ false)) ⊎ Linked a p → Gives rest after
-    fits f = g (λ q e. rw (some-is e) f)
+    no-null : ((p ≡ 0) × (needed ≡ false)) ⊎ Linked a p → (p ≡ 0) × T needed → ⊥
+    no-null fits node = ⊎-elim (λ z. rw (z .1) at (node .1)) (λ here. omega (arith, here .positive, node .0)) fits
 
-    linked : (b : Bool) → isLinked a p ≡ b → p ≤ capacity a → 0 < p
-        → Decides (row notLinked ((0 < p) × (p ≤ capacity a) × (¬ Linked a p)) ∷ rest)
-        (choose (isLinked a p) (λ _. done) (λ _. notLinked)) after
-    linked true e high low =
-        let here = true-linked low e in rw e (inr (refl, inr ((λ z. z .2 here), fits (inr here))))
-    linked false e high low =
-        rw e (inl (refl, inl ((low, high, λ here. let z : false ≡ true = sym e ∙ linked-true here in clash z), refl)))
+    no-free : ((p ≡ 0) × (needed ≡ false)) ⊎ Linked a p → (0 < p) × (p ≤ capacity a) × (¬ Linked a p) → ⊥
+    no-free fits bare = ⊎-elim (λ z. omega (arith, bare .0, z .0)) (λ here. bare .2 here) fits
 
-    null : (b : Bool) → eqb p 0 ≡ b → (n : Bool) → needed ≡ n → p ≤ capacity a
-        → Decides (row nullCursor ((p ≡ 0) × T needed) ∷ row notLinked ((0 < p) × (p ≤ capacity a) × (¬ Linked a p)) ∷ rest)
-        (choose (eqb p 0) (λ _. choose needed (λ _. nullCursor) (λ _. done)) λ _.
-        choose (isLinked a p) (λ _. done) (λ _. notLinked)) after
-    null true e true f high = rw (e, f) (inl (refl, inl ((eqb-true p 0 e, tt), refl)))
-    null true e false f high =
-        let zero : p ≡ 0 = eqb-true p 0 e in
-        rw (e, f) (inr (refl, inr ((λ z. z .1), inr ((λ z. omega (arith, z .0)), fits (inl (zero, f))))))
-    null false e n f high =
-        let some : p ≡ 0 → ⊥ = eqb-false p 0 e in
+    go : (test : Code) → PositionEnd needed p a test → Decides (positionRows needed (some p) a rest) test after
+    go test (past over e) = rw e (inl (refl, inl (over, refl)))
+    go test (null zero node e) = rw e (inl (refl, inr ((λ over. omega arith), inl ((zero, node), refl))))
+    go test (free low high apart e) =
         rw e
-        (skip (row nullCursor ((p ≡ 0) × T needed)) (row notLinked ((0 < p) × (p ≤ capacity a) × (¬ Linked a p)) ∷ rest)
-        (choose (isLinked a p) (λ _. done) (λ _. notLinked)) after (λ z. some (z .0))
-        (linked (isLinked a p) refl high (omega arith)))
-
-    large : (b : Bool) → ltb (capacity a) p ≡ b
-        → Decides (positionRows needed (some p) a rest) (positionTest needed (some p) a) after
-    large true e = rw e (inl (refl, inl (ltb-true (capacity a) p e, refl)))
-    large false e =
-        let high : p ≤ capacity a = ltb-false (capacity a) p e in
+        (inl
+        (refl, inr ((λ over. omega arith), inr ((λ zero. omega (arith, zero .0)), inl ((low, high, apart), refl)))))
+    go test (passed fits high e) =
         rw e
-        (skip (row badSlot (capacity a < p))
-        (row nullCursor ((p ≡ 0) × T needed) ∷ row notLinked ((0 < p) × (p ≤ capacity a) × (¬ Linked a p)) ∷ rest)
-        (choose (eqb p 0) (λ _. choose needed (λ _. nullCursor) (λ _. done)) λ _.
-        choose (isLinked a p) (λ _. done) (λ _. notLinked)) after (λ z. omega arith)
-        (null (eqb p 0) refl needed refl high))
+        (inr
+        (refl, inr ((λ over. omega arith), inr (no-null fits, inr (no-free fits, g (λ q f. rw (some-is f) fits))))))
+
+pub position-done : (needed : Bool) (position : Option ℕ) (a : Arrays) → positionTest needed position a ≡ done
+    → PositionFits needed position a
+position-done needed none a e p f = clash (cc)
+position-done needed (some p) a e q f = rw (some-is f) (go (positionTest needed (some p) a) e (position-end needed p a))
+  where
+    go : (test : Code) → test ≡ done → PositionEnd needed p a test → ((p ≡ 0) × (needed ≡ false)) ⊎ Linked a p
+    go test is (past over e) = clash (cc)
+    go test is (null zero node e) = clash (cc)
+    go test is (free low high apart e) = clash (cc)
+    go test is (passed fits high e) = fits
 
 -- ---- the new slot
+
+-- how the test of a new slot ends: no such slot, one that is linked, or passed
+data SlotEnd (s : ℕ) (a : Arrays) (test : Code) : Type 0 where
+  outside : (s ≡ 0) ⊎ (capacity a < s) → test ≡ badSlot → SlotEnd s a test
+  taken : 0 < s → s ≤ capacity a → Linked a s → test ≡ alreadyLinked → SlotEnd s a test
+  passed : 0 < s → s ≤ capacity a → ¬ Linked a s → test ≡ done → SlotEnd s a test
+
+slot-end : (s : ℕ) (a : Arrays) → SlotEnd s a (slotTest (some s) a)
+unfolding slotTest
+slot-end s a = zero (eqb s 0) refl
+  where
+    linked : (b : Bool) → isLinked a s ≡ b → s ≤ capacity a → 0 < s
+        → SlotEnd s a (choose b (λ _. alreadyLinked) (λ _. done))
+    linked true e high low = taken low high (true-linked low e) refl
+    linked false e high low = passed low high (λ here. clash (sym e ∙ linked-true here)) refl
+
+    large : (b : Bool) → ltb (capacity a) s ≡ b → 0 < s
+        → SlotEnd s a (choose b (λ _. badSlot) λ _. choose (isLinked a s) (λ _. alreadyLinked) (λ _. done))
+    large true e low = outside (inr (ltb-true (capacity a) s e)) refl
+    large false e low = linked (isLinked a s) refl (ltb-false (capacity a) s e) low
+
+    zero : (b : Bool) → eqb s 0 ≡ b → SlotEnd s a (slotTest (some s) a)
+    zero true e = rw e (outside (inl (eqb-true s 0 e)) refl)
+    zero false e = let some : s ≡ 0 → ⊥ = eqb-false s 0 e in rw e (large (ltb (capacity a) s) refl (omega arith))
 
 -- a new slot that passes is one of the slots and not linked
 abbrev pub SlotFits : Option ℕ → Arrays → Type 0
@@ -128,85 +163,31 @@ SlotFits slot a = (s : ℕ) → slot ≡ some s → (0 < s) × (s ≤ capacity a
 pub slot-decides : (slot : Option ℕ) (a : Arrays) (rest : List Row) (after : Code)
     → (SlotFits slot a → Gives rest after) → Decides (slotRows slot a rest) (slotTest slot a) after
 unfolding slotTest
-slot-decides none a rest after g =
-    inr (refl, inr ((λ z. z), inr ((λ z. z), g (λ s e. let z : _≡_ {A = ℕ} 0 1 = cc in absurd (omega arith)))))
-slot-decides (some s) a rest after g = null (eqb s 0) refl
+slot-decides none a rest after g = inr (refl, inr ((λ z. z), inr ((λ z. z), g (λ s e. clash (cc)))))
+slot-decides (some s) a rest after g = go (slotTest (some s) a) (slot-end s a)
   where
-    linked : (b : Bool) → isLinked a s ≡ b → s ≤ capacity a → 0 < s
-        → Decides (row alreadyLinked (Linked a s) ∷ rest) (choose (isLinked a s) (λ _. alreadyLinked) (λ _. done)) after
-    linked true e high low = rw e (inl (refl, inl (true-linked low e, refl)))
-    linked false e high low =
-        let free : ¬ Linked a s = λ here. clash (sym e ∙ linked-true here) in
-        rw e (inr (refl, inr (free, g (λ q f. rw (some-is f) (low, high, free)))))
+    within : 0 < s → s ≤ capacity a → (s ≡ 0) ⊎ (capacity a < s) → ⊥
+    within low high = ⊎-elim (λ z. omega arith) (λ z. omega arith)
 
-    large : (b : Bool) → ltb (capacity a) s ≡ b → 0 < s
-        → Decides (slotRows (some s) a rest)
-        (choose (ltb (capacity a) s) (λ _. badSlot) λ _. choose (isLinked a s) (λ _. alreadyLinked) (λ _. done)) after
-    large true e low = rw e (inl (refl, inl (inr (ltb-true (capacity a) s e), refl)))
-    large false e low =
-        let high : s ≤ capacity a = ltb-false (capacity a) s e in
-        rw e
-        (skip (row badSlot ((s ≡ 0) ⊎ (capacity a < s))) (row alreadyLinked (Linked a s) ∷ rest)
-        (choose (isLinked a s) (λ _. alreadyLinked) (λ _. done)) after (⊎-elim (λ z. omega arith) (λ z. omega arith))
-        (linked (isLinked a s) refl high low))
+    go : (test : Code) → SlotEnd s a test → Decides (slotRows (some s) a rest) test after
+    go test (outside out e) = rw e (inl (refl, inl (out, refl)))
+    go test (taken low high here e) = rw e (inl (refl, inr (within low high, inl (here, refl))))
+    go test (passed low high apart e) =
+        rw e (inr (refl, inr (within low high, inr (apart, g (λ q f. rw (some-is f) (low, high, apart))))))
 
-    null : (b : Bool) → eqb s 0 ≡ b → Decides (slotRows (some s) a rest) (slotTest (some s) a) after
-    null true e = rw e (inl (refl, inl (inl (eqb-true s 0 e), refl)))
-    null false e =
-        let some : s ≡ 0 → ⊥ = eqb-false s 0 e in rw e (large (ltb (capacity a) s) refl (omega arith))
+pub slot-done : (slot : Option ℕ) (a : Arrays) → slotTest slot a ≡ done → SlotFits slot a
+slot-done none a e s f = clash (cc)
+slot-done (some s) a e q f = rw (some-is f) (go (slotTest (some s) a) e (slot-end s a))
+  where
+    go : (test : Code) → test ≡ done → SlotEnd s a test → (0 < s) × (s ≤ capacity a) × (¬ Linked a s)
+    go test is (outside out e) = clash (cc)
+    go test is (taken low high here e) = clash (cc)
+    go test is (passed low high apart e) = (low, high, apart)
 
--- ---- what a test that says Done has shown
+-- ---- one test after another
 
 pub then-done : (test after : Code) → thenTest test (λ _. after) ≡ done → (test ≡ done) × (after ≡ done)
 unfolding thenTest
 then-done test after e = ⊎-elim
     (λ passed. (passed, (rw passed at e)))
     (λ given. let same : test ≡ done = rw given at e in clash (sym given ∙ ap isDone same)) (code-cases test)
-
-pub position-done : (needed : Bool) (position : Option ℕ) (a : Arrays) → positionTest needed position a ≡ done
-    → PositionFits needed position a
-unfolding positionTest
-position-done needed none a e p f = let z : _≡_ {A = ℕ} 0 1 = cc in absurd (omega arith)
-position-done needed (some p) a e q f = rw (some-is f) (large (ltb (capacity a) p) refl)
-  where
-    other : {P : Type 0} (c : Code) → isDone c ≡ false → c ≡ done → P
-    other c given same = clash (sym given ∙ ap isDone same)
-
-    linked : (b : Bool) → isLinked a p ≡ b → choose b (λ _. done) (λ _. notLinked) ≡ done → 0 < p → Linked a p
-    linked true g test low = true-linked low g
-    linked false g test low = other notLinked refl test
-
-    null : (b : Bool) → eqb p 0 ≡ b → (n : Bool) → needed ≡ n
-        → (choose b (λ _. choose n (λ _. nullCursor) (λ _. done)) λ _. choose (isLinked a p) (λ _. done) (λ _. notLinked)) ≡ done
-        → ((p ≡ 0) × (needed ≡ false)) ⊎ Linked a p
-    null true g true n test = other nullCursor refl test
-    null true g false n test = inl (eqb-true p 0 g, n)
-    null false g b n test =
-        let some : p ≡ 0 → ⊥ = eqb-false p 0 g in inr (linked (isLinked a p) refl test (omega arith))
-
-    large : (b : Bool) → ltb (capacity a) p ≡ b → ((p ≡ 0) × (needed ≡ false)) ⊎ Linked a p
-    large true g = other badSlot refl (rw g at e)
-    large false g = null (eqb p 0) refl needed refl (rw g at e)
-
-pub slot-done : (slot : Option ℕ) (a : Arrays) → slotTest slot a ≡ done → SlotFits slot a
-unfolding slotTest
-slot-done none a e s f = let z : _≡_ {A = ℕ} 0 1 = cc in absurd (omega arith)
-slot-done (some s) a e q f = rw (some-is f) (null (eqb s 0) refl)
-  where
-    other : {P : Type 0} (c : Code) → isDone c ≡ false → c ≡ done → P
-    other c given same = clash (sym given ∙ ap isDone same)
-
-    free : (b : Bool) → isLinked a s ≡ b → choose b (λ _. alreadyLinked) (λ _. done) ≡ done → ¬ Linked a s
-    free true g test here = other alreadyLinked refl test
-    free false g test here = clash (sym g ∙ linked-true here)
-
-    large : (b : Bool) → ltb (capacity a) s ≡ b → 0 < s
-        → (choose b (λ _. badSlot) λ _. choose (isLinked a s) (λ _. alreadyLinked) (λ _. done)) ≡ done
-        → (0 < s) × (s ≤ capacity a) × (¬ Linked a s)
-    large true g low test = other badSlot refl test
-    large false g low test = (low, ltb-false (capacity a) s g, free (isLinked a s) refl test)
-
-    null : (b : Bool) → eqb s 0 ≡ b → (0 < s) × (s ≤ capacity a) × (¬ Linked a s)
-    null true g = other badSlot refl (rw g at e)
-    null false g =
-        let some : s ≡ 0 → ⊥ = eqb-false s 0 g in large (ltb (capacity a) s) refl (omega arith) (rw g at e)

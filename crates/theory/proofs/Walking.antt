@@ -8,8 +8,8 @@ use lib.ListN.{length}
 use lib.Dec.{eqb}
 use borrow.Author.Tests.{ne-eqb}
 use Rattle.model.specs.Branch.{pick}
-use Rattle.model.specs.Tree.{Side, lft, rgt, Color, Tree, leaf, node, opp, sameSide, nod, topOf, slots}
-use Rattle.model.specs.Tree.{Frame, frame, plug}
+use Rattle.model.specs.Tree.{Side, lft, rgt, Color, Tree, leaf, node, opp, sameSide, nod, topOf, slots, Frame, frame}
+use Rattle.model.specs.Tree.{plug}
 use Rattle.model.specs.Order.{firstSlot, nextIn}
 use Rattle.model.specs.Draw.{lay, draw}
 use Rattle.theory.specs.Balance.{height}

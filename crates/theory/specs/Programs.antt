@@ -3,8 +3,8 @@ use Prim.Native.Nat.{ℕ, zero, suc, _+_, _*_}
 use lib.Dec.{eqb}
 use Rattle.model.specs.Branch.{pick}
 use Rattle.model.specs.Tree.{Side, lft, rgt, opp}
-use Rattle.theory.specs.Links.{Links, childIn, parentIn, colorIn, redIn, sideIn}
-use Rattle.theory.specs.Links.{setChild, setPc, setParent, setColor, setRoot}
+use Rattle.theory.specs.Links.{Links, childIn, parentIn, colorIn, redIn, sideIn, setChild, setPc, setParent}
+use Rattle.theory.specs.Links.{setColor, setRoot}
 
 -- ---- one slot and its surroundings
 
