@@ -6,9 +6,9 @@ use denote.Enum.Declared.{tagOf}
 use types.Run.{OneOf, miss}
 use Rattle.model.specs.Answers as model
 use Rattle.links.specs.declared.types.Code.{Code}
-use Rattle.links.specs.declared.types.Code.the-variants.{Done, Damaged, BadSlot, AlreadyLinked}
-use Rattle.links.specs.declared.types.Code.the-variants.{NotLinked, OutOfOrder, NullCursor, Stale}
-use Rattle.links.specs.declared.types.Code.the-variants.{BadRecord, BadLength, Short, BadCode}
+use Rattle.links.specs.declared.types.Code.the-variants.{Done, Damaged, BadSlot, AlreadyLinked, NotLinked}
+use Rattle.links.specs.declared.types.Code.the-variants.{OutOfOrder, NullCursor, Stale, BadRecord, BadLength}
+use Rattle.links.specs.declared.types.Code.the-variants.{Short, BadCode}
 use Rattle.links.specs.declared.types.Answer.{Answer}
 use Rattle.links.specs.Answers.{codeOf, told}
 use Rattle.links.proofs.types.Code.{the-type}

@@ -1,9 +1,9 @@
 -- What the code's answers mean in the model: each case of the enum has its code there, and so its number.
 use Rattle.model.specs.Answers as model
 use Rattle.links.specs.declared.types.Code.{Code}
-use Rattle.links.specs.declared.types.Code.the-variants.{Done, Damaged, BadSlot, AlreadyLinked}
-use Rattle.links.specs.declared.types.Code.the-variants.{NotLinked, OutOfOrder, NullCursor, Stale}
-use Rattle.links.specs.declared.types.Code.the-variants.{BadRecord, BadLength, Short, BadCode}
+use Rattle.links.specs.declared.types.Code.the-variants.{Done, Damaged, BadSlot, AlreadyLinked, NotLinked}
+use Rattle.links.specs.declared.types.Code.the-variants.{OutOfOrder, NullCursor, Stale, BadRecord, BadLength}
+use Rattle.links.specs.declared.types.Code.the-variants.{Short, BadCode}
 use Rattle.links.specs.declared.types.Answer.{Answer}
 
 -- 01's number of c is `codeNumber (codeOf c)`.

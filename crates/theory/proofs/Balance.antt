@@ -119,7 +119,7 @@ pub fits-black : (w : List Frame) → Fits w black
 fits-black [] = refl
 fits-black (frame d c p s ∷ w) = allowed-black c
 
-pub around-topped : (n : ℕ) (w : List Frame) → Around n w → Topped w
+around-topped : (n : ℕ) (w : List Frame) → Around n w → Topped w
 around-topped n [] a = tt
 around-topped n (frame d red p s ∷ []) a = red≢black (a .2)
 around-topped n (frame d black p s ∷ []) a = tt
@@ -151,3 +151,7 @@ unplug t (frame d c p s ∷ w) b =
     let e = rank-nod d c t p s (u .ranked .even) in
     let q = ranked-parts d c p (rw e at (u .ranked)) in
     record { ranked = q .near; around = (q .far-allowed, q .far, u .fits, rw e at (u .around)); fits = q .near-allowed }
+
+-- the frames of a balanced tree end in a black one
+pub balanced-topped : (t : Tree) (w : List Frame) → Balanced (plug t w) → Topped w
+balanced-topped t w b = around-topped (blacks t) w (unplug t w b .around)

@@ -111,6 +111,7 @@ cleared-whole : (t : Tree) (s : Cell) → cleared (written 0 t) t s ≡ 0
 cleared-whole t s = by-count t (slotOf s)
     (λ none. cleared-none (written 0 t) t s none ∙ written-none 0 t s none) (cleared-some (written 0 t) t s)
 
+-- 01, clear: from any drawing to that of the empty tree
 pub clear-drawn : {C : ℕ} (n : ℕ) (t : Tree) → height t ≤ n → Sound C t → clearAll n (drawn C t) ≡ drawn C leaf
 unfolding clearAll drawn draw laid lay
 clear-drawn {C} n t le h =

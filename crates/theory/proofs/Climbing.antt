@@ -67,6 +67,7 @@ inner-drawn e k near x far p s cg g u w h =
     rw (rotate-drawn e red s p k near x far (frame e cg g u ∷ w) h)
     (settle-drawn e (nod (opp e) red near p s) k x far cg g u w low h₁)
 
+-- either of the two, as the climb has it
 pub finish-drawn : {C : ℕ} (d e : Side) (x : Tree) (p : ℕ) (s : Tree) (cg : Color) (g : ℕ) (u : Tree) (w : List Frame)
     → 1 ≤ topOf x → Sound C (plug (nod e cg (nod d red x p s) g u) w)
     → finish e (drawn C (plug (nod e cg (nod d red x p s) g u) w)) (topOf x) p
@@ -113,6 +114,7 @@ module _ {C : ℕ} (d e : Side) (k : Color) (x : Tree) (p : ℕ) (s : Tree) (cg 
 
 -- ---- the whole climb
 
+-- one frame less leaves the top one black
 pub topped-tail : (f : Frame) (w : List Frame) → Topped (f ∷ w) → Topped w
 topped-tail f [] o = tt
 topped-tail (frame d red p s) (f ∷ w) o = o
@@ -175,6 +177,7 @@ up-climbs C x d p s e c g (node red l u r) w is t go (suc n) le low o h =
     ∙ go n (omega arith) (slot-low e (crown w) (nod d black x p s) g (node black l u r) w h₁)
     (topped-tail (frame e c g (node red l u r)) w o) h₁
 
+-- the loop draws the climb, where the root is black
 pub climb-drawn : {C : ℕ} (n : ℕ) (x : Tree) (w : List Frame) → length w ≤ n → 1 ≤ topOf x → Topped w
     → Sound C (plug x w)
     → postInsert n (drawn C (plug x w)) (topOf x) ≡ drawn C (climb x w)

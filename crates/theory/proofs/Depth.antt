@@ -15,6 +15,7 @@ use Rattle.theory.proofs.Totals.{sound-size}
 use Rattle.theory.proofs.Height.{height-size, height-plug}
 use Rattle.theory.proofs.Places.{long, spot-low, spot-parent, spot-up}
 
+-- a tree, and a place in it
 pub sound-height : {C : ℕ} (t : Tree) → Sound C t → height t ≤ C
 sound-height t h = omega (arith, height-size t, sound-size h)
 
@@ -22,6 +23,7 @@ pub sound-deep : {C : ℕ} (t : Tree) (w : List Frame) → Sound C (plug t w) �
 sound-deep t w h = omega (arith, height-plug t w, sound-height (plug t w) h)
 
 module _ {d : Side} {near far pc : List ℕ} {root C : ℕ} where
+  -- the parent steps up from a place are its frames
   ups-at : (m : ℕ) (w : List Frame) {e : Side} {c : Color} {a b : Tree} {x : ℕ} → Spot d near far pc root C e c a x b w
       → length w ≤ m → ups m pc x ≡ length w
   unfolding ups

@@ -61,7 +61,7 @@ blacks-size (node black l x r) e =
 square : (n : ℕ) → n ^ 2 ≡ n * n
 square n = rw (pow-suc n 1, pow-suc n 0, pow-zero n, one-mul n)
 
--- 01, demand 3
+-- 01, demand 3: a way down a balanced tree is no longer than its size allows
 pub height-fits : (t : Tree) (p : ℕ) → Balanced t → p ≤ height t → PathFits p t
 height-fits t p b le =
     let i = height-blacks t (b .calm) (b .even) in

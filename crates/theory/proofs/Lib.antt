@@ -27,6 +27,7 @@ pub mod Descents
 pub mod DrawingCells
 pub mod DrawingLists
 pub mod DrawingTrees
+pub mod Drawings
 pub mod Empty
 pub mod Exchanges
 pub mod Finds
@@ -36,6 +37,7 @@ pub mod Hanging
 pub mod Hangs
 pub mod Height
 pub mod Holds
+pub mod HoldsDrawn
 pub mod HoldsReads
 pub mod Hung
 pub mod LastKey
@@ -53,6 +55,7 @@ pub mod Placing
 pub mod Positions
 pub mod Reading
 pub mod Refill
+pub mod Refilling
 pub mod Refusals
 pub mod Removal
 pub mod RemovalBalance
@@ -61,6 +64,7 @@ pub mod Replacing
 pub mod Results
 pub mod Rising
 pub mod Rotating
+pub mod Rounds
 pub mod Sided
 pub mod Sides
 pub mod Sinking

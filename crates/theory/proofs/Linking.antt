@@ -94,6 +94,7 @@ module _ {C : ℕ} (d : Side) (c : Color) (p : ℕ) (u : Tree) (w : List Frame) 
   abbrev place : List Frame
   place = frame d c p u ∷ w
 
+  -- a red slot without children, at the place
   pub hang-drawn : hangIn d (drawn C (plug leaf (frame d c p u ∷ w))) p x
       ≡ drawn C (plug (node red leaf x leaf) (frame d c p u ∷ w))
   unfolding hangIn drawn draw laid

@@ -23,7 +23,7 @@ use Rattle.theory.proofs.Positions.{first-facing}
 use Rattle.theory.proofs.Reading.{near-drawn, far-drawn, parent-drawn, color-drawn, paint-drawn, far-low}
 use Rattle.theory.proofs.Reading.{side-drawn}
 use Rattle.theory.proofs.Replacing.{detach-drawn, detach-sound, replace-drawn, replace-sound}
-use Rattle.theory.proofs.Sinking.{sink-drawn}
+use Rattle.theory.proofs.Refilling.{sink-drawn}
 use Rattle.theory.proofs.Walking.{end-drawn}
 
 -- ---- the siblings that the rules ask for, from balance
@@ -157,6 +157,7 @@ first-length c (node k a y b) x r w = omega (arith, first-length k a y b (frame 
 
 -- ---- any node
 
+-- 01, Removal: the program on a drawing draws the tree without the slot
 pub remove-drawn : {C : ℕ} (fuel : ℕ) (c : Color) (l : Tree) (x : ℕ) (r : Tree) (w : List Frame)
     → length w + height (node c l x r) ≤ fuel → Balanced (plug (node c l x r) w) → Sound C (plug (node c l x r) w)
     → removeAt fuel (drawn C (plug (node c l x r) w)) x ≡ drawn C (takeOut (focusOn c l x r w))

@@ -224,6 +224,7 @@ module _ {C : ℕ} (d : Side) (cx : Color) (a : Tree) (x : ℕ) (cy : Color) (b 
         color-part (above w) cx,
       ) (laid-set-pc C f₅ r′ x xl (parentColor y cx))
 
+  -- rotate_left (the side lft) and rotate_right
   pub rotate-drawn : rotateIn d (drawn C (plug (nod (opp d) cx (nod d cy b y c) x a) w)) x
       ≡ drawn C (plug (nod d cy (nod (opp d) cx b x a) y c) w)
   unfolding drawn draw laid

@@ -12,10 +12,12 @@ use Rattle.theory.specs.Links.{childIn, pcIn, parentIn, colorIn, setChil
 use Rattle.theory.specs.Programs.{adopt}
 use Rattle.theory.specs.Sided.{sided}
 
+-- swapped arrays on the other side are the same links
 pub sided-opp : (d : Side) (near far pc : List ℕ) (root : ℕ) → sided (opp d) far near pc root ≡ sided d near far pc root
 sided-opp lft near far pc root = refl
 sided-opp rgt near far pc root = refl
 
+-- reads
 pub sided-near : (d : Side) (near far pc : List ℕ) (root : ℕ) (s : ℕ)
     → childIn d (sided d near far pc root) s ≡ at near s
 unfolding childIn
@@ -45,6 +47,7 @@ unfolding pcIn colorAt
 sided-color lft near far pc root s = refl
 sided-color rgt near far pc root s = refl
 
+-- stores
 pub sided-set-near : (d : Side) (near far pc : List ℕ) (root : ℕ) (s v : ℕ)
     → setChild d (sided d near far pc root) s v ≡ sided d (put near s v) far pc root
 unfolding setChild

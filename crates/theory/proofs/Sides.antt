@@ -1,4 +1,4 @@
--- Trees seen from a side: `nod d` with a near and a far child, and what painting and rotating make of it.
+-- Trees seen from a side: a node has a near and a far child.
 use Prim.Native.Nat.{ℕ}
 use mathlib.Core.Path.{_≡_, refl, sym}
 use mathlib.Core.Bool.{true, true≢false}
@@ -28,6 +28,7 @@ red-side d (node black l x r) is = absurd (true≢false (sym is))
 red-side lft (node red l x r) is = (l, x, r, refl)
 red-side rgt (node red l x r) is = (r, x, l, refl)
 
+-- the children of a node, by side
 pub child-near : (d : Side) (c : Color) (near : Tree) (x : ℕ) (far : Tree) → childTree d (nod d c near x far) ≡ near
 child-near lft c near x far = refl
 child-near rgt c near x far = refl

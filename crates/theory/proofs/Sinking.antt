@@ -1,23 +1,22 @@
--- The climb after a removal on a drawing: each of its steps draws what `refill` makes of the tree. The place t hangs on
--- the side d of q, and its sibling s has a near and a far child; seen from s, q's other child is t.
-use Prim.Native.Nat.{ℕ, zero, suc, _≤_}
+-- The steps of the climb after a removal, on a drawing. The place t hangs on the side d of q, and its sibling s has a
+-- near and a far child; seen from s, q's other child is t.
+use Prim.Native.Nat.{ℕ}
 use mathlib.Core.Path.{_≡_, ap, sym, _∙_}
 use mathlib.Core.Bool.{true, false, true≢false}
 use mathlib.Core.List.{List, [], _∷_}
 use native.Mathlib.Omega.{arith}
-use lib.ListN.{length}
 use borrow.Author.Tests.{ne-eqb}
 use Rattle.model.specs.Branch.{pick}
 use Rattle.model.specs.Tree.{Side, lft, rgt, Color, red, black, Tree, leaf, node, opp, on, nod, topOf, isRed, paint}
 use Rattle.model.specs.Tree.{Frame, frame, plug}
-use Rattle.model.specs.Removal.{rootOrRed, belowBlack, refill}
+use Rattle.model.specs.Removal.{rootOrRed, belowBlack}
 use Rattle.theory.specs.Sound.{Sound}
-use Rattle.theory.specs.Links.{Links, drawn, setColor}
-use Rattle.theory.specs.Places.{siblingOf, BlackNode, Firm, Solid}
-use Rattle.theory.specs.Programs.{farTurn, nearTurn, goUp, lowerAt, redAbove, postRemove}
-use Rattle.theory.proofs.Sides.{opp-opp, nod-opp, by-side}
+use Rattle.theory.specs.Links.{Links, drawn, childIn, redIn, setColor}
+use Rattle.theory.specs.Places.{siblingOf, BlackNode, Firm}
+use Rattle.theory.specs.Programs.{farTurn, nearTurn, goUp, lowerAt, redTurn, redAbove}
+use Rattle.theory.proofs.Sides.{nod-opp}
 use Rattle.theory.proofs.Counts.{slot-low}
-use Rattle.theory.proofs.Refill.{below-by, refill-red, refill-black}
+use Rattle.theory.proofs.Refill.{below-by}
 use Rattle.theory.proofs.Rotating.{rotate-drawn, rotate-sound}
 use Rattle.theory.proofs.Reading.{near-drawn, far-drawn, parent-drawn, color-drawn, set-pc-drawn, paint-drawn}
 use Rattle.theory.proofs.Reading.{paint-sound, far-parent, paint-far-drawn, paint-far-sound, far-red-drawn}
@@ -101,7 +100,7 @@ up-drawn next e black s q t (frame d k g u ∷ w) h =
 
 -- ---- below a black sibling
 
-module _ {C : ℕ} (next : Links → ℕ → Links) (d : Side) (c : Color) (s q : ℕ) (t : Tree) (w : List Frame) where
+module _ {C : ℕ} (d : Side) (c : Color) (s q : ℕ) (t : Tree) (w : List Frame) where
   far-case : (near far : Tree) → Sound C (plug (beside d c black near s far q t) w) → isRed far ≡ true
       → farTurn d (drawn C (plug (beside d c black near s far q t) w)) s q
       ≡ drawn C (plug (nod d c (nod d black t q near) s (paint black far)) w)
@@ -117,42 +116,56 @@ module _ {C : ℕ} (next : Links → ℕ → Links) (d : Side) (c : Color) (s q 
       near-turn-drawn d c black a y b s far q t w h
       ∙ ap (λ (u : Tree). drawn C (plug (nod d c u y (nod d black b s far)) w)) (nod-opp d black t q a)
 
-  none-case : (near far : Tree) → Sound C (plug (beside d c black near s far q t) w)
-      → goUp next (setColor (drawn C (plug (beside d c black near s far q t) w)) s 0) q
-      ≡ pick (rootOrRed c w) (drawn C (plug (nod d black t q (nod d red near s far)) w))
-      (next (drawn C (plug (nod d c t q (nod d red near s far)) w)) (siblingOf w))
-  none-case near far h =
-      rw (
-        paint-drawn d black near s far (frame (opp d) c q t ∷ w) h red,
-        ← nod-opp d black t q (nod d red near s far),
-        ← nod-opp d c t q (nod d red near s far),
-      )
-      (up-drawn next (opp d) c (nod d red near s far) q t w
-      (paint-sound d black near s far (frame (opp d) c q t ∷ w) h red))
-
-  pub lower-drawn : (near far : Tree) (repeat : Tree → Tree) → Sound C (plug (beside d c black near s far q t) w)
-      → (rootOrRed c w ≡ false
-      → next (drawn C (plug (nod d c t q (nod d red near s far)) w)) (siblingOf w)
-      ≡ drawn C (repeat (nod d c t q (nod d red near s far))))
-      → lowerAt next d (drawn C (plug (beside d c black near s far q t) w)) s q
+  -- the two rotations, and the rest where no child of the sibling is red
+  pub arms-drawn : (near far : Tree) (repeat : Tree → Tree) (rest : Links)
+      → Sound C (plug (beside d c black near s far q t) w)
+      → (rootOrRed c w ≡ true → rest ≡ drawn C (plug (nod d black t q (nod d red near s far)) w))
+      → (rootOrRed c w ≡ false → rest ≡ drawn C (repeat (nod d c t q (nod d red near s far))))
+      → let k = drawn C (plug (beside d c black near s far q t) w) in
+      pick (redIn k (childIn (opp d) k s)) (farTurn d k s q)
+      (pick (redIn k (childIn d k s)) (nearTurn d k s (childIn d k s)) rest)
       ≡ drawn C (belowBlack d c t q (nod d black near s far) w repeat)
-  unfolding lowerAt
-  lower-drawn near far repeat h again =
-      let v = frame (opp d) c q t ∷ w in
+  arms-drawn near far repeat rest h ends goes =
+      let v = frame (opp d) c q t ∷ w in let k = drawn C (plug (beside d c black near s far q t) w) in
       rw (
         far-drawn d black near s far v h,
         near-drawn d black near s far v h,
         far-red-drawn d black near s far v h,
         near-red-drawn d black near s far v h,
       )
-      (below-by (λ u. pick (isRed far) (farTurn d (drawn C (plug (beside d c black near s far q t) w)) s q)
-      (pick (isRed near) (nearTurn d (drawn C (plug (beside d c black near s far q t) w)) s (topOf near))
-      (goUp next (setColor (drawn C (plug (beside d c black near s far q t) w)) s 0) q)) ≡ drawn C u)
+      (below-by
+      (λ u. pick (isRed far) (farTurn d k s q) (pick (isRed near) (nearTurn d k s (topOf near)) rest) ≡ drawn C u)
       d c t q s far w repeat near
       (λ is. rw is (far-case near far h is))
       (λ is a y b e. rw (is, e) (near-case a y b far (rw e at h)))
-      (λ near-is far-is ends. rw (far-is, near-is) (rw (ends) at (none-case near far h)))
-      (λ near-is far-is goes. rw (far-is, near-is) ((rw goes at (none-case near far h)) ∙ again goes)))
+      (λ near-is far-is e. rw (far-is, near-is) (ends e))
+      (λ near-is far-is e. rw (far-is, near-is) (goes e)))
+
+  module _ (next : Links → ℕ → Links) where
+    none-case : (near far : Tree) → Sound C (plug (beside d c black near s far q t) w)
+        → goUp next (setColor (drawn C (plug (beside d c black near s far q t) w)) s 0) q
+        ≡ pick (rootOrRed c w) (drawn C (plug (nod d black t q (nod d red near s far)) w))
+        (next (drawn C (plug (nod d c t q (nod d red near s far)) w)) (siblingOf w))
+    none-case near far h =
+        rw (
+          paint-drawn d black near s far (frame (opp d) c q t ∷ w) h red,
+          ← nod-opp d black t q (nod d red near s far),
+          ← nod-opp d c t q (nod d red near s far),
+        )
+        (up-drawn next (opp d) c (nod d red near s far) q t w
+        (paint-sound d black near s far (frame (opp d) c q t ∷ w) h red))
+
+    pub lower-drawn : (near far : Tree) (repeat : Tree → Tree) → Sound C (plug (beside d c black near s far q t) w)
+        → (rootOrRed c w ≡ false
+        → next (drawn C (plug (nod d c t q (nod d red near s far)) w)) (siblingOf w)
+        ≡ drawn C (repeat (nod d c t q (nod d red near s far))))
+        → lowerAt next d (drawn C (plug (beside d c black near s far q t) w)) s q
+        ≡ drawn C (belowBlack d c t q (nod d black near s far) w repeat)
+    unfolding lowerAt
+    lower-drawn near far repeat h again =
+        arms-drawn near far repeat
+        (goUp next (setColor (drawn C (plug (beside d c black near s far q t) w)) s 0) q) h
+        (λ e. rw e at (none-case near far h)) (λ e. (rw e at (none-case near far h)) ∙ again e)
 
 -- ---- a red sibling comes up
 
@@ -163,130 +176,45 @@ red-sound d c near s far q t w h =
     (paint-sound (opp d) c (nod d black near s far) q t w
     (paint-sound d red near s far (frame (opp d) c q t ∷ w) h black) red)
 
+pub red-turn-drawn : {C : ℕ} (d : Side) (c : Color) (near : Tree) (s : ℕ) (far : Tree) (q : ℕ) (t : Tree)
+    (w : List Frame)
+    → Sound C (plug (beside d c red near s far q t) w)
+    → redTurn d (drawn C (plug (beside d c red near s far q t) w)) s q
+    ≡ drawn C (plug (nod d black (nod (opp d) red near q t) s far) w)
+unfolding redTurn
+red-turn-drawn d c near s far q t w h =
+    let h₁ = paint-sound d red near s far (frame (opp d) c q t ∷ w) h black in
+    let h₂ = paint-sound (opp d) c (nod d black near s far) q t w h₁ red in
+    rw (
+      paint-drawn d red near s far (frame (opp d) c q t ∷ w) h black,
+      paint-drawn (opp d) c (nod d black near s far) q t w h₁ red,
+    ) (rotate-drawn d red t q black near s far w h₂)
+
 -- its near child is the sibling then
 pub red-drawn : {C : ℕ} (next : Links → ℕ → Links) (d : Side) (c : Color) (a : Tree) (y : ℕ) (b : Tree) (s : ℕ)
-    (far : Tree)
-    (q : ℕ) (t : Tree) (w : List Frame) → Sound C (plug (beside d c red (nod d black a y b) s far q t) w)
+    (far : Tree) (q : ℕ) (t : Tree) (w : List Frame) → Sound C (plug (beside d c red (nod d black a y b) s far q t) w)
     → redAbove next d (drawn C (plug (beside d c red (nod d black a y b) s far q t) w)) s q
     ≡ lowerAt next d (drawn C (plug (beside d red black a y b q t) (frame d black s far ∷ w))) y q
 unfolding redAbove
 red-drawn next d c a y b s far q t w h =
-    let near = nod d black a y b in
-    let h₁ = paint-sound d red near s far (frame (opp d) c q t ∷ w) h black in
-    let h₂ = paint-sound (opp d) c (nod d black near s far) q t w h₁ red in
-    let h₃ = rotate-sound d red t q black near s far w h₂ in
+    let near = nod d black a y b in let h₁ = red-sound d c near s far q t w h in
     rw (
-      paint-drawn d red near s far (frame (opp d) c q t ∷ w) h black,
-      paint-drawn (opp d) c (nod d black near s far) q t w h₁ red,
-      rotate-drawn d red t q black near s far w h₂,
-      near-drawn d black (nod (opp d) red near q t) s far w h₃,
-      near-drawn (opp d) red near q t (frame d black s far ∷ w) h₃,
-      parent-drawn d black a y b (frame (opp d) red q t ∷ frame d black s far ∷ w) h₃,
+      red-turn-drawn d c near s far q t w h,
+      near-drawn d black (nod (opp d) red near q t) s far w h₁,
+      near-drawn (opp d) red near q t (frame d black s far ∷ w) h₁,
+      parent-drawn d black a y b (frame (opp d) red q t ∷ frame d black s far ∷ w) h₁,
     )
 
--- ---- the whole climb
+-- ---- the siblings that the rules ask for
 
-abbrev again : (n : ℕ) → Links → ℕ → Links
-again n k s = postRemove n k s
+-- a black node on top, seen from a side
+pub black-by : (d : Side) (P : Tree → Type 0) → ((near : Tree) (x : ℕ) (far : Tree) → P (nod d black near x far))
+    → (t : Tree) → BlackNode t → P t
+black-by d P some leaf o = absurd o
+black-by d P some (node red l x r) o = absurd o
+black-by lft P some (node black l x r) o = some l x r
+black-by rgt P some (node black l x r) o = some r x l
 
--- the first test of a round
-module _ {C : ℕ} (n : ℕ) (d : Side) (c : Color) (near : Tree) (s : ℕ) (far : Tree) (q : ℕ) (t : Tree)
-    (w : List Frame) where
-  round-black : Sound C (plug (beside d c black near s far q t) w)
-      → postRemove (suc n) (drawn C (plug (beside d c black near s far q t) w)) s
-      ≡ lowerAt (again n) d (drawn C (plug (beside d c black near s far q t) w)) s q
-  unfolding postRemove
-  round-black h =
-      let v = frame (opp d) c q t ∷ w in let low = slot-low d black near s far v h in
-      rw (
-        parent-drawn d black near s far v h,
-        side-drawn (nod d black near s far) (opp d) c q t w low h,
-        opp-opp d,
-        color-drawn d black near s far v h,
-      )
-
-  round-red : Sound C (plug (beside d c red near s far q t) w)
-      → postRemove (suc n) (drawn C (plug (beside d c red near s far q t) w)) s
-      ≡ redAbove (again n) d (drawn C (plug (beside d c red near s far q t) w)) s q
-  unfolding postRemove
-  round-red h =
-      let v = frame (opp d) c q t ∷ w in let low = slot-low d red near s far v h in
-      rw (
-        parent-drawn d red near s far v h,
-        side-drawn (nod d red near s far) (opp d) c q t w low h,
-        opp-opp d,
-        color-drawn d red near s far v h,
-      )
-
-pub none-sound : {C : ℕ} (d : Side) (c : Color) (near : Tree) (s : ℕ) (far : Tree) (q : ℕ) (t : Tree) (w : List Frame)
-    → Sound C (plug (beside d c black near s far q t) w) → Sound C (plug (nod d c t q (nod d red near s far)) w)
-none-sound d c near s far q t w h =
-    rw (← nod-opp d c t q (nod d red near s far)) (paint-sound d black near s far (frame (opp d) c q t ∷ w) h red)
-
-firm-near : (d : Side) (near : Tree) (s : ℕ) (far : Tree) → Firm d (nod d red near s far) → BlackNode near
+pub firm-near : (d : Side) (near : Tree) (s : ℕ) (far : Tree) → Firm d (nod d red near s far) → BlackNode near
 firm-near lft near s far o = o
 firm-near rgt near s far o = o
-
-module _ {C : ℕ} (n : ℕ) (d : Side) (c : Color) (q : ℕ) (t : Tree) (w : List Frame) where
-  sink-black : (near : Tree) (s : ℕ) (far : Tree) → Sound C (plug t (frame d c q (nod d black near s far) ∷ w))
-      → ((u : Tree) → Sound C (plug u w) → rootOrRed c w ≡ false
-      → postRemove n (drawn C (plug u w)) (siblingOf w) ≡ drawn C (refill u w))
-      → postRemove (suc n) (drawn C (plug t (frame d c q (nod d black near s far) ∷ w))) s
-      ≡ drawn C (refill t (frame d c q (nod d black near s far) ∷ w))
-  sink-black near s far h go =
-      let h′ : Sound C (plug (beside d c black near s far q t) w) = rw (nod-opp d c t q (nod d black near s far)) h in
-      rw (← nod-opp d c t q (nod d black near s far), refill-black t d c q near s far w)
-      (round-black n d c near s far q t w h′
-      ∙ lower-drawn (again n) d c s q t w near far (λ u. refill u w) h′
-      (go (nod d c t q (nod d red near s far)) (none-sound d c near s far q t w h′)))
-
-  sink-red : (a : Tree) (y : ℕ) (b : Tree) (s : ℕ) (far : Tree)
-      → Sound C (plug t (frame d c q (nod d red (nod d black a y b) s far) ∷ w))
-      → postRemove (suc n) (drawn C (plug t (frame d c q (nod d red (nod d black a y b) s far) ∷ w))) s
-      ≡ drawn C (refill t (frame d c q (nod d red (nod d black a y b) s far) ∷ w))
-  sink-red a y b s far h =
-      let near = nod d black a y b in
-      let h′ : Sound C (plug (beside d c red near s far q t) w) = rw (nod-opp d c t q (nod d red near s far)) h in
-      rw (← nod-opp d c t q (nod d red near s far), refill-red t d c q near s far w)
-      (round-red n d c near s far q t w h′
-      ∙ red-drawn (again n) d c a y b s far q t w h′
-      ∙ lower-drawn (again n) d red y q t (frame d black s far ∷ w) a b (λ u. u) (red-sound d c near s far q t w h′)
-      (λ goes. absurd (true≢false goes)))
-
-  -- either sibling, as the rules ask for it
-  sink-sibling : (k : Color) (near : Tree) (s : ℕ) (far : Tree) → Firm d (nod d k near s far)
-      → ((u : Tree) → Sound C (plug u w) → rootOrRed c w ≡ false
-      → postRemove n (drawn C (plug u w)) (siblingOf w) ≡ drawn C (refill u w))
-      → Sound C (plug t (frame d c q (nod d k near s far) ∷ w))
-      → postRemove (suc n) (drawn C (plug t (frame d c q (nod d k near s far) ∷ w))) s
-      ≡ drawn C (refill t (frame d c q (nod d k near s far) ∷ w))
-  sink-sibling black near s far o go h = sink-black near s far h go
-  sink-sibling red near s far o go h = by-side d
-      (λ near. BlackNode near → Sound C (plug t (frame d c q (nod d red near s far) ∷ w))
-      → postRemove (suc n) (drawn C (plug t (frame d c q (nod d red near s far) ∷ w))) s
-      ≡ drawn C (refill t (frame d c q (nod d red near s far) ∷ w)))
-      (λ none. absurd none) (λ k a y b is. black-case k a y b is) near (firm-near d near s far o) h
-    where
-      black-case : (k : Color) (a : Tree) (y : ℕ) (b : Tree) → BlackNode (nod d k a y b)
-          → Sound C (plug t (frame d c q (nod d red (nod d k a y b) s far) ∷ w))
-          → postRemove (suc n) (drawn C (plug t (frame d c q (nod d red (nod d k a y b) s far) ∷ w))) s
-          ≡ drawn C (refill t (frame d c q (nod d red (nod d k a y b) s far) ∷ w))
-      black-case red a y b is = absurd is
-      black-case black a y b is = sink-red a y b s far
-
--- a way that isn't at its end under a black q goes on
-goes-on : (c : Color) (w : List Frame) → rootOrRed c w ≡ false → rootOrRed black w ≡ false
-goes-on red w goes = absurd (true≢false goes)
-goes-on black w goes = goes
-
-pub sink-drawn : {C : ℕ} (n : ℕ) (t : Tree) (w : List Frame) → rootOrRed black w ≡ false → length w ≤ n → Solid w
-    → Sound C (plug t w) → postRemove n (drawn C (plug t w)) (siblingOf w) ≡ drawn C (refill t w)
-sink-drawn n t [] goes le o h = absurd (true≢false goes)
-sink-drawn zero t (f ∷ w) goes le o h = absurd (omega arith)
-sink-drawn {C} (suc n) t (frame d c q s ∷ w) goes le o h = by-side d
-    (λ s. Firm d s → Sound C (plug t (frame d c q s ∷ w))
-    → postRemove (suc n) (drawn C (plug t (frame d c q s ∷ w))) (topOf s) ≡ drawn C (refill t (frame d c q s ∷ w)))
-    (λ none. absurd none)
-    (λ k near y far firm. sink-sibling n d c q t w k near y far firm
-    (λ u u-sound up. sink-drawn n u w (goes-on c w up) (omega arith) (o .1) u-sound))
-    s (o .0) h

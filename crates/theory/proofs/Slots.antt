@@ -12,6 +12,7 @@ use Rattle.model.specs.Lent.{at}
 use Rattle.theory.specs.Slots.{put, parentAt, colorAt, putParent, putColor, Below, Parents}
 use Rattle.theory.proofs.Branch.{by-test}
 
+-- the length, and the entries
 pub length-put : (l : List ℕ) (s v : ℕ) → length (put l s v) ≡ length l
 unfolding put
 length-put l s v = length-set l (s - 1) v
@@ -32,6 +33,7 @@ put-by P l s v low high new old t = by-test (eqb (t - 1) (s - 1))
     (λ is. rw (eqb-true (t - 1) (s - 1) is, getD-set-same l (s - 1) v 0 (omega arith)) new)
     (λ is. rw (getD-set-other l (s - 1) (t - 1) v 0 (eqb-false (t - 1) (s - 1) is)) (old t))
 
+-- children and parents in bounds stay so
 pub below-put : (l : List ℕ) (s v : ℕ) → Below l → 0 < s → s ≤ length l → v ≤ length l → Below (put l s v)
 below-put l s v b low high le =
     record { each = λ t. rw (length-put l s v) (put-by (λ x. x ≤ length l) l s v low high le (b .each) t) }

@@ -137,19 +137,19 @@ from-zero d n (node c l x r) le h =
     let low = slot-low lft c l x r [] h in
     rw (ne-eqb x 0 (λ e. omega arith), end-drawn (opp d) n (node c l x r) [] low le h, opp-opp d)
 
-from-place : {C : ℕ} (d : Side) (n : ℕ) (t : Tree) (p : ℕ) → height t < n → Standing d p t → Sound C t
+from-place : {C : ℕ} (d : Side) (n : ℕ) (t : Tree) (p : ℕ) → height t ≤ n → Standing d p t → Sound C t
     → stepTo d n (drawn C t) p ≡ nextIn p (facing d (slots t))
 from-place d n t p le v h =
     let here = nod d (v .color) (v .near) p (v .far) in
-    let fits : height (plug here (v .way)) < n = rw (v .whole) le in
+    let fits : height (plug here (v .way)) ≤ n = rw (v .whole) le in
     let deep = height-plug here (v .way) in let child = height-nod d (v .color) (v .near) p (v .far) in
     rw (← v .whole)
     (step-drawn d n (v .color) (v .near) p (v .far) (v .way) (omega arith) (omega arith) (rw (← v .whole) at h))
 
 -- next (the side rgt) and prev, from any position: 0 is before the first
-pub walk-drawn : {C : ℕ} (d : Side) (n : ℕ) (t : Tree) (p : ℕ) → height t < n → (p ≡ 0) ⊎ List·Memᴰ p (slots t)
+pub walk-drawn : {C : ℕ} (d : Side) (n : ℕ) (t : Tree) (p : ℕ) → height t ≤ n → (p ≡ 0) ⊎ List·Memᴰ p (slots t)
     → Sound C t → walkTo d n (drawn C t) p ≡ nextIn p (facing d (slots t))
 unfolding walkTo drawn draw lay
-walk-drawn d n t p le (inl e) h = rw e (from-zero d n t (omega arith) h)
+walk-drawn d n t p le (inl e) h = rw e (from-zero d n t le h)
 walk-drawn d n t p le (inr m) h =
     rw (ne-eqb p 0 (λ e. sound-zero h (rw e at m))) (from-place d n t p le (standing d p t m) h)

@@ -1,4 +1,4 @@
--- W5 and W6 of 01 as rules on a tree, and on the frames of a place: what hanging and removal keep.
+-- W5 and W6 of 01 as rules on a tree: what hanging and removal keep.
 use Prim.Native.Nat.{ℕ, suc, _+_, max}
 use mathlib.Core.List.{List, [], _∷_}
 use mathlib.Core.Path.{_≡_}
@@ -50,21 +50,7 @@ abbrev pub height : Tree → ℕ
 height leaf = 0
 height (node c l x r) = suc (max (height l) (height r))
 
--- ---- the same of the frames above a place
-
--- a tree of the colour may hang at the place
-abbrev pub AllowedUp : List Frame → Color → Type 0
-AllowedUp [] c = Unit {0}
-AllowedUp (frame d k p s ∷ w) c = Allowed k c
-
-abbrev pub CalmUp : List Frame → Type 0
-CalmUp [] = Unit {0}
-CalmUp (frame d c p s ∷ w) = Allowed c (tint s) × Calm s × AllowedUp w c × CalmUp w
-
--- round a place where a tree with n black nodes hangs
-abbrev pub EvenUp : List Frame → (n : ℕ) → Type 0
-EvenUp [] n = Unit {0}
-EvenUp (frame d c p s ∷ w) n = Even s × (blacks s ≡ n) × EvenUp w (dark c n)
+-- ---- of the frames above a place
 
 -- the topmost frame is black
 abbrev pub Topped : List Frame → Type 0

@@ -128,10 +128,14 @@ lowerAt next d k s p =
     let n = childIn d k s in
     pick (redIn k f) (farTurn d k s p) (pick (redIn k n) (nearTurn d k s n) (goUp next (setColor k s 0) p))
 
--- a red sibling goes up over p, and its near child is the sibling then
+-- a red sibling goes up over p
+unfoldable pub redTurn : Side → Links → (s p : ℕ) → Links
+redTurn d k s p = rotateIn d (setColor (setColor k s 1) p 0) p
+
+-- and its near child is the sibling then
 unfoldable pub redAbove : (next : Links → ℕ → Links) → Side → Links → (s p : ℕ) → Links
 redAbove next d k s p =
-    let k₁ = rotateIn d (setColor (setColor k s 1) p 0) p in
+    let k₁ = redTurn d k s p in
     let s₁ = childIn (opp d) k₁ (childIn d k₁ s) in
     lowerAt next d k₁ s₁ (parentIn k₁ s₁)
 

@@ -1,0 +1,42 @@
+-- `records::long` meets its contract: two numbers of four bytes are joined. Assumes nothing.
+use borrow.Author.Needs.{needs}
+use Rattle.records.proofs.Reading.{fields-joined}
+use Rattle.records.proofs.long.Statement.{statement}
+use Rattle.records.proofs.long.Tie as tie
+
+word-requires : tie.Need-word-requires
+word-requires c κs = search needs
+
+cast-low : tie.Need-cast-low
+cast-low c = search needs
+
+add-word : tie.Need-add-word
+add-word c = search needs
+
+word-requires-2 : tie.Need-word-requires-2
+word-requires-2 c κs = search needs
+
+cast-high : tie.Need-cast-high
+cast-high c = search needs
+
+mul-result : tie.Need-mul-result
+mul-result c = search needs
+
+add-result : tie.Need-add-result
+add-result c = search needs
+
+returns : tie.Need-returns
+returns c = fields-joined 4 4 (search needs) (c .before .word .ensures) (c .word2 .ensures)
+
+pub long-spec : {M : Type 1} → statement M
+long-spec =
+    tie.close
+    (tie.spec
+    word-requires
+    cast-low
+    add-word
+    word-requires-2
+    cast-high
+    mul-result
+    add-result
+    returns)
