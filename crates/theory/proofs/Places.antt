@@ -24,7 +24,7 @@ use Rattle.theory.proofs.DrawingCells.{written-none}
 use Rattle.theory.proofs.DrawingLists.{length-listed}
 use Rattle.theory.proofs.Stores.{parent-part}
 use Rattle.theory.proofs.Reading.{near-drawn, far-drawn, parent-drawn, color-drawn, on-drawn}
-use Rattle.theory.proofs.Sided.{sided-near, sided-far, sided-parent, sided-color}
+use Rattle.theory.proofs.Sided.{sided-opp, sided-near, sided-far, sided-parent, sided-color}
 
 -- ---- bounds of a drawing
 
@@ -101,6 +101,12 @@ swap b = record {
   same-pc = b .same-pc ∙ sym (b .same-far);
   small = omega (arith, b .small, b .same-far);
 }
+
+-- with the two child arrays swapped it is the drawing for the other side
+pub flip : {d : Side} {near far pc : List ℕ} {root C : ℕ} {t : Tree} → Drawn d near far pc root C t
+    → Drawn (opp d) far near pc root C t
+flip {d} {near} {far} {pc} {root} k =
+    record { is = sided-opp d near far pc root ∙ k .is; sound = k .sound; small = k .small }
 
 bounded-links : {C : ℕ} (k : Links) (t : Tree) → Sound C t → C ≤ capacityLimit → k ≡ drawn C t
     → Bounded (k .left) (k .right) (k .pc) (k .root) × (length (k .left) ≡ C)

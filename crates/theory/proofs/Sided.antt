@@ -18,6 +18,10 @@ sided-opp lft near far pc root = refl
 sided-opp rgt near far pc root = refl
 
 -- reads
+pub sided-root : (d : Side) (near far pc : List ℕ) (root : ℕ) → sided d near far pc root .root ≡ root
+sided-root lft near far pc root = refl
+sided-root rgt near far pc root = refl
+
 pub sided-near : (d : Side) (near far pc : List ℕ) (root : ℕ) (s : ℕ)
     → childIn d (sided d near far pc root) s ≡ at near s
 unfolding childIn

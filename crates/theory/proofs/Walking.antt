@@ -29,10 +29,16 @@ use Rattle.theory.proofs.Reading.{near-drawn, top-parent, on-drawn}
 -- ---- lists on the way to a side
 
 -- a tree's list begins with that of its child away from the side
-facing-opp : (d : Side) (c : Color) (near : Tree) (x : ℕ) (far : Tree)
+pub facing-opp : (d : Side) (c : Color) (near : Tree) (x : ℕ) (far : Tree)
     → facing (opp d) (slots (nod d c near x far)) ≡ facing (opp d) (slots near) ++ x ∷ facing (opp d) (slots far)
 facing-opp lft c near x far = refl
 facing-opp rgt c near x far = reverse-at (slots far) x (slots near)
+
+-- what comes after a tree that is not empty doesn't change its first slot
+pub first-nod : (e d : Side) (c : Color) (near : Tree) (x : ℕ) (far : Tree) (L : List ℕ)
+    → firstSlot (facing e (slots (nod d c near x far)) ++ L) ≡ firstSlot (facing e (slots (nod d c near x far)))
+first-nod e lft c near x far L = first-facing e c near x far L
+first-nod e rgt c near x far L = first-facing e c far x near L
 
 facing-leaf : (d : Side) → facing d (slots leaf) ≡ []
 facing-leaf lft = refl
