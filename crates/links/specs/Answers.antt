@@ -1,5 +1,6 @@
 -- What the code's answers mean in the model: each case of the enum has its code there, and so its number.
 use Rattle.model.specs.Answers as model
+use Rattle.model.specs.Lent.{Lent}
 use Rattle.links.specs.declared.types.Code.{Code}
 use Rattle.links.specs.declared.types.Code.the-variants.{Done, Damaged, BadSlot, AlreadyLinked, NotLinked}
 use Rattle.links.specs.declared.types.Code.the-variants.{OutOfOrder, NullCursor, Stale, BadRecord, BadLength}
@@ -24,3 +25,7 @@ codeOf BadCode = model.badCode
 -- an answer as the model has it
 abbrev pub told : Answer → model.Answer
 told a = record { code = codeOf (a .code); probes = a .probes; slot = a .slot .0 }
+
+-- an answer, with the lent numbers after the call
+abbrev pub outcomeOf : Answer → Lent → model.Outcome
+outcomeOf a m = record { answer = told a; after = m }

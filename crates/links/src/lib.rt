@@ -5,8 +5,10 @@ pub mod types;
 use types::Key;
 use types::Slot;
 ghost use mathlib.Core.Path.{_≡_};
+ghost use mathlib.Core.Bool.{_&&_};
 ghost use Prim.Native.Nat.{_≤_};
 ghost use lib.ListN.{length};
+ghost use Rattle.model.specs.Branch.{pick as choice};
 ghost use Rattle.model.specs.Lent.{at};
 ghost use Rattle.links.specs.Reads.{SlotOf, GetPre, Got, ParentPre, GotParent, GotColor, GotLinked, GotRed};
 ghost use Rattle.links.specs.Writes.{SetPre, Set, SetParentColorPre, SetParentColor, SetParentPre, SetParent};
@@ -165,4 +167,28 @@ pub fn set_key(key: &mut [u64], slot: Slot, value: Key)
     let s = slot.0;
     let at = s as usize - 1;
     key[at] = value.0;
+}
+
+// The number of a slot in an array, whatever it is.
+pub fn number_at(numbers: &[u32], slot: Slot) -> u32
+    requires { ⌜ SlotOf (now numbers) (slot .0) ⌝ }
+    ensures { λ found. ⌜ found ≡ at (now (numbers .entry)) (slot .0) ⌝ }
+{
+    let s = slot.0;
+    let at = s as usize - 1;
+    numbers[at]
+}
+
+// Both of two tests, without a branch.
+pub fn both(a: bool, b: bool) -> bool
+    ensures { λ r. ⌜ r ≡ (a && b) ⌝ }
+{
+    if a { b } else { false }
+}
+
+// One of two slots, without a branch.
+pub fn pick(first: bool, a: Slot, b: Slot) -> Slot
+    ensures { λ r. ⌜ r .0 ≡ choice first (a .0) (b .0) ⌝ }
+{
+    if first { a } else { b }
 }

@@ -79,7 +79,7 @@ module _ (m : Lent) (t : Tree) (h : Hangs (m .arrays) 0 (m .root) t) where
           absurd (omega arith)
 
 -- what the check has read is the tree of the arrays
-read-hung : {m : Lent} {t : Tree} {b k : ℕ} → Lengths (m .arrays) → W2 (m .arrays) → tint t ≡ black →
+pub read-hung : {m : Lent} {t : Tree} {b k : ℕ} → Lengths (m .arrays) → W2 (m .arrays) → tint t ≡ black →
     Read (m .arrays) 0 (m .root) 0 b (linkedCount (m .arrays .pc)) k t → Hung m t
 read-hung {m} {t} lengths w2 top read = record {
   lengths = lengths;
@@ -116,7 +116,7 @@ module _ (m : Lent) (t : Tree) (h : Hung m t) where
           (hung-linked m t h s (record { positive = low; fits = high; marked = omega arith }))
 
   -- there are as many nodes as linked slots
-  hung-size : size t ≡ linkedCount (m .arrays .pc)
+  pub hung-size : size t ≡ linkedCount (m .arrays .pc)
   hung-size =
       let C = capacity (m .arrays) in
       let mark : ℕ → ℕ = λ s. oneIf (pcOf (m .arrays) s) in

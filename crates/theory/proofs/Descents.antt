@@ -18,7 +18,7 @@ use Rattle.theory.proofs.Lists.{slots-around, reverse-at}
 use Rattle.theory.proofs.Rising.{rising-front, rising-rest, rising-before, rising-after}
 
 -- a step leads on to the left, to the right, or nowhere
-follow-cases : (P : Landing → Type 0) (s : Step) (left right here : Unit {0} → Landing)
+pub follow-cases : (P : Landing → Type 0) (s : Step) (left right here : Unit {0} → Landing)
     → (s ≡ leftward → P (left tt)) → (s ≡ rightward → P (right tt)) → (s ≡ halt → P (here tt))
     → P (follow s left right here)
 follow-cases P leftward left right here a b c = a refl

@@ -105,7 +105,7 @@ find-holding key k t c l x r e = record {
 }
 
 -- an empty place is insert's
-find-insert : (key : ℕ → ℕ) (k : ℕ) (t : Tree) → findLanding key k t .place ≡ leaf
+pub find-insert : (key : ℕ → ℕ) (k : ℕ) (t : Tree) → findLanding key k t .place ≡ leaf
     → findLanding key k t ≡ insertLanding key k t
 unfolding findLanding insertLanding
 find-insert key k t e = sym (descend-same (findStep key k) (insertStep key k) t [] (find-moves key k) e)

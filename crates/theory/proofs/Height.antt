@@ -51,7 +51,7 @@ height-blacks (node red l x r) q e = omega (
 height-blacks (node black l x r) q e = omega (arith, height-blacks l (q .2) (e .0), height-blacks r (q .3) (e .1))
 
 -- the black nodes alone make a full tree
-blacks-size : (t : Tree) → Even t → 2 ^ blacks t ≤ size t + 1
+pub blacks-size : (t : Tree) → Even t → 2 ^ blacks t ≤ size t + 1
 blacks-size leaf e = omega arith
 blacks-size (node red l x r) e = omega (arith, blacks-size l (e .0))
 blacks-size (node black l x r) e =

@@ -53,6 +53,11 @@ pub mod Orders
 pub mod Places
 pub mod Placing
 pub mod Positions
+pub mod QuickBounds
+pub mod QuickCheck
+pub mod QuickFinds
+pub mod QuickReads
+pub mod QuickTests
 pub mod Reading
 pub mod Refill
 pub mod Refilling

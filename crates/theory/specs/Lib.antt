@@ -13,6 +13,7 @@ pub mod Lists
 pub mod Orders
 pub mod Places
 pub mod Programs
+pub mod Quick
 pub mod Rounds
 pub mod Sided
 pub mod Slots
