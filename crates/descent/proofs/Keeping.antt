@@ -1,5 +1,5 @@
 -- What the loops of path and find keep: a descent on its way down, in every tree that the arrays draw.
-use Prim.Native.Nat.{ℕ, _+_, _-_, _^_, _≤_, _<_}
+use Prim.Native.Nat.{ℕ, _+_, _-_, _≤_, _<_}
 use mathlib.Core.Bool.{Bool}
 use mathlib.Core.List.{List, [], _∷_}
 use mathlib.Core.Logic.{_≢_}
@@ -7,6 +7,7 @@ use mathlib.Core.Path.{_≡_}
 use native.Mathlib.Omega.{arith}
 use lib.ListN.{length}
 use Rattle.model.specs.Branch.{pick}
+use Rattle.model.specs.Limits.{capacityLimit}
 use Rattle.model.specs.Tree.{lft, Tree, Frame, frame}
 use Rattle.model.specs.Descent.{Step, leftIf}
 use Rattle.theory.specs.Places.{Spot, Bounded}
@@ -22,15 +23,16 @@ pub record Coming (step : ℕ → Step) (t : Tree) (here last n : ℕ) : Type 0 
   pub stands : Downward step t here last n way
 
 module _ (left right key : List ℕ) (root : ℕ) where
-  -- It has, in each such tree; and the last node has a key.
+  -- It has, in each such tree; the last node has a key, and the nodes are few.
   pub record Keeping (step : ℕ → Step) (here last n : ℕ) : Type 0 where
     pub each : (v : Searchable left right key root) → Coming step (v .tree) here last n
     pub top : last ≤ length key
+    pub few : n ≤ capacityLimit
 
 -- at the root
 unfoldable pub keep-start : {left right key : List ℕ} {root : ℕ} {step : ℕ → Step}
     → Keeping left right key root step root 0 0
-keep-start = record { each = λ v. record { way = []; stands = start (v .drawing) }; top = omega arith }
+keep-start = record { each = λ v. record { way = []; stands = start (v .drawing) }; top = omega arith; few = omega arith }
 
 module _ {left right key : List ℕ} {root : ℕ} {step : ℕ → Step} {here last n : ℕ}
     (v : Searchable left right key root) (s : Keeping left right key root step here last n) (some : here ≢ 0) where
@@ -57,13 +59,12 @@ module _ {left right key : List ℕ} {root : ℕ} {step : ℕ → Step} {here la
   pub keep-key : SlotOf key here
   keep-key = record { pos = spot-low spot; top = omega (arith, spot-high spot, v .keys, long (v .drawing)) }
 
-  -- the probes fit
-  pub keep-fits : n + 1 < 2 ^ 32
-  keep-fits = omega (arith, met-deep (v .drawing) met, bounds .small)
-
-  -- and stay below the number of slots
+  -- it has looked at fewer nodes than there are slots
   pub keep-less : length left - (n + 1) < length left - n
   keep-less = omega (arith, met-deep (v .drawing) met)
+
+  pub keep-few : n + 1 ≤ capacityLimit
+  keep-few = omega (arith, met-deep (v .drawing) met, bounds .small)
 
   -- one step down, to the left if the test passes
   module _ {a b next : ℕ} (goes-left : Bool) (goes : step here ≡ leftIf goes-left) (got-left : Got left here a)
@@ -74,4 +75,5 @@ module _ {left right key : List ℕ} {root : ℕ} {step : ℕ → Step} {here la
           (rw (← got-left .is, ← got-right .is) next-is) in
           record { way = frame (sideIf goes-left) (z .color) here (z .sibling) ∷ s .each u .way; stands = z .stands };
       top = keep-key .top;
+      few = keep-few;
     }

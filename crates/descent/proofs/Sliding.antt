@@ -1,10 +1,11 @@
 -- The loop of edge: it goes down one side of the tree, to the end.
-use Prim.Native.Nat.{ℕ, _+_, _-_, _^_, _<_}
+use Prim.Native.Nat.{ℕ, _+_, _-_, _≤_, _<_}
 use mathlib.Core.List.{List, [], _∷_}
 use mathlib.Core.Logic.{_≢_}
 use mathlib.Core.Path.{_≡_, refl, ap, sym, _∙_}
 use native.Mathlib.Omega.{arith}
 use lib.ListN.{length}
+use Rattle.model.specs.Limits.{capacityLimit}
 use Rattle.model.specs.Tree.{Side, lft, rgt, Tree, leaf, node, Frame, frame, above}
 use Rattle.model.specs.Descent.{Landing, landing, descend, lastTurn}
 use Rattle.theory.proofs.Places.{bounded, spot-low, spot-high, spot-near}
@@ -14,13 +15,14 @@ use Rattle.descent.specs.Searches.{Sloping, toward, metOf, FoundEdge}
 use Rattle.descent.proofs.Downward.{Meeting, start, meeting, moved, met-spot, met-deep, ended, lastNode-empty}
 use Rattle.descent.proofs.Keeping.{Coming}
 
--- It has come down, on whatever side of whatever tree the links are.
+-- It has come down, on whatever side of whatever tree the links are; and the nodes are few.
 pub record Sliding (near : List ℕ) (root here last n : ℕ) : Type 0 where
   pub each : (v : Sloping near root) → Coming (λ _. toward (v .side)) (v .tree) here last n
+  pub few : n ≤ capacityLimit
 
 -- at the root
 pub slide-start : {near : List ℕ} {root : ℕ} → Sliding near root root 0 0
-slide-start = record { each = λ v. record { way = []; stands = start (v .drawing) } }
+slide-start = record { each = λ v. record { way = []; stands = start (v .drawing) }; few = omega arith }
 
 -- a way to one side has its last turn there at its last node
 slope-turn : (d : Side) (t : Tree) (w : List Frame) → lastTurn d w ≡ above w
@@ -54,11 +56,7 @@ module _ {near : List ℕ} {root here last n : ℕ} (v : Sloping near root) (s :
   slide-get = let x = met-spot (v .drawing) (met v) in
       record { pos = spot-low x; top = spot-high x; below = bounded (v .drawing) .near-below }
 
-  -- the probes fit
-  pub slide-fits : n + 1 < 2 ^ 32
-  slide-fits = omega (arith, met-deep (v .drawing) (met v), bounded (v .drawing) .small)
-
-  -- and stay below the number of slots
+  -- it has looked at fewer nodes than there are slots
   pub slide-less : length near - (n + 1) < length near - n
   slide-less = omega (arith, met-deep (v .drawing) (met v))
 
@@ -71,4 +69,5 @@ module _ {near : List ℕ} {root here last n : ℕ} (v : Sloping near root) (s :
           way = frame (u .side) (m .color) here (m .far) ∷ s .each u .way;
           stands = moved (u .side) m refl (got .is ∙ spot-near (met-spot (u .drawing) m));
         };
+    few = omega (arith, met-deep (v .drawing) (met v), bounded (v .drawing) .small);
   }

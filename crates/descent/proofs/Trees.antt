@@ -32,18 +32,20 @@ module _ {m : Lent} {t : Tree} (h : Holds m t) where
   }
 
   module _ {k : ℕ} where
+    -- find: the slot and the probes
     pub find-holds : {r : Met} → FoundKey (m .arrays .left) (m .arrays .right) (m .arrays .key) (m .root) k r
         → MetAt (findLanding (keyOf (m .arrays)) k t) (findSlot (keyOf (m .arrays)) k t) r
     unfolding holds-searchable keyOf
     find-holds f = f .is holds-searchable
 
-    -- lower_bound for the left side, upper_bound for the right one
+    -- the same of lower_bound, for the left side, and of upper_bound, for the right one
     pub bound-holds : (d : Side) {kind : ℕ} {r : Met}
         → FoundBound (m .arrays .left) (m .arrays .right) (m .arrays .key) (m .root) d kind k r
         → let e = boundLanding d (keyOf (m .arrays)) kind k t in MetAt e (boundSlot d e) r
     unfolding holds-searchable keyOf
     bound-holds d f = f .is holds-searchable
 
+    -- entry: what is there for the key, and the probes of find
     module _ {s : Sought} (f : FoundEntry (m .arrays .left) (m .arrays .right) (m .arrays .key) (m .root) k s) where
       pub entry-holds : entryTold (s .entry) ≡ entryFor (keyOf (m .arrays)) k t
       unfolding holds-searchable keyOf
@@ -53,7 +55,7 @@ module _ {m : Lent} {t : Tree} (h : Holds m t) where
       unfolding holds-searchable keyOf
       entry-probes = f .probes-is holds-searchable
 
-    -- insert, by path and place
+    -- insert, by path and place: the probes, and the empty place
     module _ {p : Path} (f : FoundPath (m .arrays .left) (m .arrays .right) (m .arrays .key) (m .root) k false p) where
       insert-path : PathTo (insertLanding (keyOf (m .arrays)) k t) p
       unfolding holds-searchable keyOf insertLanding insertStep overStep isOver

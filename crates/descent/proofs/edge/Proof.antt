@@ -3,7 +3,7 @@
 use Prim.Native.Nat.{_-_}
 use lib.ListN.{length}
 use borrow.Author.Needs.{needs}
-use Rattle.descent.proofs.Sliding.{Sliding, slide-start, slide-get, slide-fits, slide-less, slide-on, slid}
+use Rattle.descent.proofs.Sliding.{Sliding, slide-start, slide-get, slide-less, slide-on, slid}
 use Rattle.descent.proofs.edge.Statement.{statement}
 use Rattle.descent.proofs.edge.Tie as tie
 
@@ -17,7 +17,7 @@ loop-holds : tie.Need-loop-holds Inv-loop μ-loop
 loop-holds c = slide-start
 
 add-probes : tie.Need-add-probes Inv-loop μ-loop
-add-probes c = search (needs, slide-fits)
+add-probes c = search needs
 
 get-requires : tie.Need-get-requires Inv-loop μ-loop
 get-requires c κs = search (needs, slide-get)

@@ -5,7 +5,7 @@ use lib.ListN.{length}
 use borrow.Author.Needs.{needs}
 use Rattle.model.specs.Lent.{at}
 use Rattle.model.specs.Descent.{findStep}
-use Rattle.descent.proofs.Keeping.{Keeping, keep-start, keep-key, keep-left, keep-right, keep-fits, keep-less}
+use Rattle.descent.proofs.Keeping.{Keeping, keep-start, keep-key, keep-left, keep-right, keep-less}
 use Rattle.descent.proofs.Finding.{find-on, found-none, found-here, found-leaf}
 use Rattle.descent.proofs.find.Statement.{statement}
 use Rattle.descent.proofs.find.Tie as tie
@@ -30,7 +30,7 @@ get-requires-2 : tie.Need-get-requires-2 Inv-loop μ-loop
 get-requires-2 c κs = search (needs, keep-right)
 
 add-probes : tie.Need-add-probes Inv-loop μ-loop
-add-probes c = search (needs, keep-fits)
+add-probes c = search needs
 
 pick-requires : tie.Need-pick-requires Inv-loop μ-loop
 pick-requires c κs = search needs

@@ -3,7 +3,7 @@
 use Prim.Native.Nat.{_-_}
 use lib.ListN.{length}
 use borrow.Author.Needs.{needs}
-use Rattle.descent.proofs.Keeping.{keep-key, keep-left, keep-right, keep-fits, keep-less}
+use Rattle.descent.proofs.Keeping.{keep-key, keep-left, keep-right, keep-less}
 use Rattle.descent.proofs.Passing.{Passing, pass-start, pass-on, passed, passed-leaf}
 use Rattle.descent.proofs.path.Statement.{statement}
 use Rattle.descent.proofs.path.Tie as tie
@@ -31,7 +31,7 @@ is-over-requires : tie.Need-is-over-requires Inv-loop μ-loop
 is-over-requires c κs = search needs
 
 add-probes : tie.Need-add-probes Inv-loop μ-loop
-add-probes c = search (needs, keep-fits)
+add-probes c = search needs
 
 pick-requires : tie.Need-pick-requires Inv-loop μ-loop
 pick-requires c κs = search needs
