@@ -8,10 +8,8 @@ pub mod Calm
 pub mod Cells
 pub mod Changes
 pub mod Check
-pub mod CheckCounts
 pub mod CheckFinds
 pub mod CheckReads
-pub mod CheckReturns
 pub mod CheckSlots
 pub mod CheckSteps
 pub mod Clearing

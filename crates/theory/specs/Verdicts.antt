@@ -1,5 +1,5 @@
 -- The check of a node in pieces: its own tests, a verdict on each side, both together, and how large the counts get.
-use Prim.Native.Nat.{ℕ, _+_, _^_, _≤_, _<_}
+use Prim.Native.Nat.{ℕ, _+_}
 use mathlib.Core.Bool.{Bool, false, _&&_}
 use lib.Dec.{eqb, leb}
 use Rattle.model.specs.Tree.{lft, rgt, Color, red, black}
@@ -30,8 +30,3 @@ abbrev pub joined : Color → (left right : Verdict) → Verdict
 joined c bad right = bad
 joined c (good b n j) bad = bad
 joined c (good b n j) (good b′ n′ j′) = guard (eqb b b′) λ _. good (b + colorCode c) (n + n′ + 1) j′
-
--- the counts of a verdict that so much depth allows
-abbrev pub Modest : (depth : ℕ) → Verdict → Type 0
-Modest depth bad = Unit {0}
-Modest depth (good b n k) = (b ≤ depth) × (n < 2 ^ depth)

@@ -1,6 +1,6 @@
-// The whole check: whether lent arrays are well formed, W1 to W6, whatever they hold. It goes with the definitions of
-// `quickCheck` in theory: the count of a subtree is that of its missing children, one more than its nodes, and 0 where
-// something is wrong.
+// The whole check: whether lent arrays are well formed, W1 to W6, whatever they hold. A count is that of the missing
+// children of a subtree, one more than its nodes, and 0 where something is wrong; `Quick` of theory has each count as a
+// definition.
 pub mod types;
 
 use links::types::Key;
@@ -20,7 +20,7 @@ ghost use Rattle.wellformed.specs.Checks.{highest, stray, sameLengths, K
 ghost use Rattle.wellformed.specs.Checks.{RedPre, BlackPre, Descended, One, SameLengths, Tallied, Rooted};
 
 // What a child number of a slot names.
-pub fn kin_of(pc: &[u32], parent: Slot, slot: Slot) -> Kin
+fn kin_of(pc: &[u32], parent: Slot, slot: Slot) -> Kin
     requires { ⌜ parent .0 ≤ capacityLimit ⌝ }
     ensures { λ kin. ⌜ Kinship kin (now (pc .entry)) (parent .0) (slot .0) ⌝ }
 {
@@ -44,7 +44,7 @@ pub fn kin_of(pc: &[u32], parent: Slot, slot: Slot) -> Kin
 }
 
 // Whether two children differ, or are both 0.
-pub fn differ(a: Slot, b: Slot) -> bool
+fn differ(a: Slot, b: Slot) -> bool
     ensures { λ r. ⌜ r ≡ apart (a .0) (b .0) ⌝ }
 {
     if a.0 != b.0 {
@@ -53,15 +53,15 @@ pub fn differ(a: Slot, b: Slot) -> bool
     a.0 == 0
 }
 
-// Whether a key lies between two others, or is one of them.
-pub fn between(low: Key, k: Key, high: Key) -> bool
+// Whether a key is at least the one and at most the other.
+fn between(low: Key, k: Key, high: Key) -> bool
     ensures { λ r. ⌜ r ≡ isBetween (low .0) (k .0) (high .0) ⌝ }
 {
     links::both(low.0 <= k.0, k.0 <= high.0)
 }
 
 // A slot's children and key, with what is right or wrong in them.
-pub fn node_at(left: &[u32], right: &[u32], key: &[u64], slot: Slot, low: Key, high: Key) -> Node
+fn node_at(left: &[u32], right: &[u32], key: &[u64], slot: Slot, low: Key, high: Key) -> Node
     requires { ⌜ NodePre (now left) (now right) (now key) (slot .0) ⌝ }
     ensures { λ node. ⌜ NodeAt (now (left .entry)) (now (right .entry)) (now (key .entry))
         (slot .0) (low .0) (high .0) node ⌝ }
@@ -80,7 +80,7 @@ pub fn node_at(left: &[u32], right: &[u32], key: &[u64], slot: Slot, low: Key, h
 }
 
 // The count of both sides, or 0 where something is wrong on one.
-pub fn sum_of(x: u32, y: u32) -> u32
+fn sum_of(x: u32, y: u32) -> u32
     requires { ⌜ x + y < 4294967296 ⌝ }
     ensures { λ r. ⌜ r ≡ sumOf x y ⌝ }
 {
@@ -94,7 +94,7 @@ pub fn sum_of(x: u32, y: u32) -> u32
 }
 
 // Whether a slot is a red child of another, without children, its key between the two.
-pub fn is_red_end(
+fn is_red_end(
     left: &[u32],
     right: &[u32],
     pc: &[u32],
@@ -119,7 +119,7 @@ pub fn is_red_end(
 }
 
 // 1 where there is nothing, else 2 if all is well.
-pub fn end_count(missing: bool, good: bool) -> u32
+fn end_count(missing: bool, good: bool) -> u32
     ensures { λ r. ⌜ r ≡ pick missing 1 (pick good 2 0) ⌝ }
 {
     if missing { 1 } else { if good { 2 } else { 0 } }
@@ -127,7 +127,7 @@ pub fn end_count(missing: bool, good: bool) -> u32
 
 // The count of a child where no black node may come: nothing, or a red node without children. For nothing another slot
 // is looked at, in vain: no branch hangs on it.
-pub fn end_check(
+fn end_check(
     left: &[u32],
     right: &[u32],
     pc: &[u32],
@@ -152,7 +152,7 @@ pub fn end_check(
 }
 
 // The count under the last black node of every way.
-pub fn last_check(
+fn last_check(
     left: &[u32],
     right: &[u32],
     pc: &[u32],
@@ -179,7 +179,7 @@ pub fn last_check(
 }
 
 // The count under a red node, which has no red child.
-pub fn red_check(
+fn red_check(
     left: &[u32],
     right: &[u32],
     pc: &[u32],
@@ -218,7 +218,7 @@ pub fn red_check(
 
 // The count under a black node. A black node takes 2 of the depth, and a red one below it 1 of those, so that every way
 // has to use up the same number of black nodes.
-pub fn black_check(
+fn black_check(
     left: &[u32],
     right: &[u32],
     pc: &[u32],
@@ -259,7 +259,7 @@ pub fn black_check(
 }
 
 // The number of black nodes on the way from the root down the left links, as far as it goes.
-pub fn blacks_down(left: &[u32], pc: &[u32], root: Slot) -> u32
+fn blacks_down(left: &[u32], pc: &[u32], root: Slot) -> u32
     requires { ⌜ length (now left) ≡ length (now pc) ⌝ }
     ensures { λ r. ⌜ Descended (now (left .entry)) (now (pc .entry)) (root .0) r ⌝ }
 {
@@ -282,14 +282,14 @@ pub fn blacks_down(left: &[u32], pc: &[u32], root: Slot) -> u32
 }
 
 // 1 for yes.
-pub fn one_if(yes: bool) -> u32
+fn one_if(yes: bool) -> u32
     ensures { λ r. ⌜ One yes r ⌝ }
 {
     if yes { 1 } else { 0 }
 }
 
 // Whether an unlinked slot has a child.
-pub fn is_stray(mark: u32, a: u32, b: u32) -> bool
+fn is_stray(mark: u32, a: u32, b: u32) -> bool
     ensures { λ r. ⌜ r ≡ stray a b mark ⌝ }
 {
     if mark != 0 {
@@ -302,7 +302,7 @@ pub fn is_stray(mark: u32, a: u32, b: u32) -> bool
 }
 
 // The number of linked slots, and of unlinked ones with a child.
-pub fn tally(left: &[u32], right: &[u32], pc: &[u32]) -> Tally
+fn tally(left: &[u32], right: &[u32], pc: &[u32]) -> Tally
     requires { ⌜ SameLengths (now left) (now right) (now pc) ⌝ }
     ensures { λ r. ⌜ Tallied (now (left .entry)) (now (right .entry)) (now (pc .entry)) r ⌝ }
 {
@@ -321,7 +321,7 @@ pub fn tally(left: &[u32], right: &[u32], pc: &[u32]) -> Tally
 }
 
 // Whether the arrays are equally long.
-pub fn same_lengths(left: &[u32], right: &[u32], pc: &[u32], key: &[u64]) -> bool
+fn same_lengths(left: &[u32], right: &[u32], pc: &[u32], key: &[u64]) -> bool
     ensures { λ r. ⌜ r ≡ sameLengths
         (now (left .entry)) (now (right .entry)) (now (pc .entry)) (now (key .entry)) ⌝ }
 {
@@ -336,7 +336,7 @@ pub fn same_lengths(left: &[u32], right: &[u32], pc: &[u32], key: &[u64]) -> boo
 }
 
 // W1.
-pub fn fits(left: &[u32], right: &[u32], pc: &[u32], key: &[u64], root: Slot) -> bool
+fn fits(left: &[u32], right: &[u32], pc: &[u32], key: &[u64], root: Slot) -> bool
     ensures { λ r. ⌜ r ≡ fitting
         (lent (now (left .entry)) (now (right .entry)) (now (pc .entry)) (now (key .entry)) (root .0)) ⌝ }
 {
@@ -351,7 +351,7 @@ pub fn fits(left: &[u32], right: &[u32], pc: &[u32], key: &[u64], root: Slot) ->
 }
 
 // The count of the whole tree. More black nodes than the depth has room for fit on no way.
-pub fn tree_check(left: &[u32], right: &[u32], pc: &[u32], key: &[u64], root: Slot) -> u32
+fn tree_check(left: &[u32], right: &[u32], pc: &[u32], key: &[u64], root: Slot) -> u32
     requires { ⌜ Rooted (now left) (now right) (now pc) (now key) (root .0) ⌝ }
     ensures { λ r. ⌜ r ≡ treeEnds highest
         (lent (now (left .entry)) (now (right .entry)) (now (pc .entry)) (now (key .entry)) (root .0)) ⌝ }
