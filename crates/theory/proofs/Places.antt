@@ -38,7 +38,7 @@ top-high : {C : ℕ} (t : Tree) (w : List Frame) → Sound C (plug t w) → topO
 top-high leaf w h = omega arith
 top-high (node c l x r) w h = slot-high lft c l x r w h
 
-above-high : {C : ℕ} (t : Tree) (w : List Frame) → Sound C (plug t w) → above w ≤ C
+pub above-high : {C : ℕ} (t : Tree) (w : List Frame) → Sound C (plug t w) → above w ≤ C
 above-high t [] h = omega arith
 above-high t (frame d c p s ∷ w) h = slot-high d c t p s w h
 

@@ -51,3 +51,11 @@ parents-putParent l s v b low high le = parents-put l s _ b low high (omega arit
 pub parents-putColor : (l : List ℕ) (s v : ℕ) → Parents l → 0 < s → s ≤ length l → v ≤ 1 → Parents (putColor l s v)
 unfolding putColor
 parents-putColor l s v b low high le = parents-put l s _ b low high (omega (arith, b .each s))
+
+-- a stored colour keeps every parent
+pub parent-putColor : (pc : List ℕ) (s v t : ℕ) → 0 < s → s ≤ length pc → v ≤ 1
+    → parentAt (putColor pc s v) t ≡ parentAt pc t
+unfolding at put parentAt putColor
+parent-putColor pc s v t low high bit = by-test (eqb (t - 1) (s - 1))
+    (λ is. rw (eqb-true (t - 1) (s - 1) is, getD-set-same pc (s - 1) _ 0 (omega arith)) (omega arith))
+    (λ is. rw (getD-set-other pc (s - 1) (t - 1) _ 0 (eqb-false (t - 1) (s - 1) is)))
