@@ -13,7 +13,7 @@ use Rattle.theory.specs.Places.{Bounded, Made}
 use Rattle.theory.specs.Programs.{releaseAt, clearFrom, clearAll}
 use Rattle.theory.proofs.Sided.{sided-near, sided-far, sided-set-root}
 use Rattle.links.specs.Reads.{Got}
-use Rattle.links.specs.Writes.{ReleasePre, Released}
+use Rattle.links.specs.Writes.{Released}
 use Rattle.clearing.specs.Clearing.{Cleared}
 
 -- ---- the program
@@ -50,20 +50,6 @@ bounded-from b top = record {
   same-far = b .same-far;
   same-pc = b .same-pc;
   small = b .small;
-}
-
--- what release asks for
-pub release-asked : {left right pc : List ℕ} {root s : ℕ} → Bounded left right pc root → 0 < s → s ≤ length left
-    → ReleasePre left right pc s
-release-asked b pos top = record {
-  left = b .near-below;
-  right = b .far-below;
-  pc = b .parents;
-  lr = b .same-far;
-  lp = b .same-pc;
-  small = b .small;
-  pos = pos;
-  top = top;
 }
 
 -- ---- clear_recurse, at each of its three ends

@@ -18,7 +18,8 @@ use Rattle.theory.proofs.Linking.{plant-drawn, hang-drawn, hung-sound, insert-d
 use Rattle.theory.proofs.Sided.{sided-set-near, sided-set-root}
 use Rattle.theory.proofs.Places.{above-high, swap, bounded, long}
 use Rattle.theory.proofs.Depth.{sound-deep}
-use Rattle.links.specs.Writes.{ReleasePre, Set, SetPre, SetLinksPre, SetLinks}
+use Rattle.links.specs.Reads.{SlotIn}
+use Rattle.links.specs.Writes.{Set, SetPre, SetLinksPre, SetLinks}
 use Rattle.hanging.specs.Climbs.{PostInsertPre}
 use Rattle.hanging.specs.Inserts.{HangPre, HangPost, Vacant, VacantBelow, Inserted}
 
@@ -60,7 +61,7 @@ module _ {near far pc : List ℕ} {p x : ℕ} (k : HangPre near far pc p x) wher
 
 -- a slot may be stored
 storable : {near far pc : List ℕ} {root x : ℕ} → Bounded near far pc root → 1 ≤ x → x ≤ length near
-    → ReleasePre near far pc x
+    → SlotIn near far pc x
 storable b low high =
     record {
       left = b .near-below;

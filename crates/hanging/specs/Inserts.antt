@@ -11,13 +11,13 @@ use Rattle.theory.specs.Links.{links, drawn}
 use Rattle.theory.specs.Programs.{hangIn}
 use Rattle.theory.specs.Sided.{sided}
 use Rattle.theory.specs.Places.{Bounded, Drawn}
-use Rattle.links.specs.Writes.{ReleasePre}
+use Rattle.links.specs.Reads.{SlotIn}
 
 -- ---- hang
 
 -- every number is a slot or 0, and the parent and x are slots
 pub record HangPre (near far pc : List ℕ) (parent x : ℕ) : Type 0 where
-  pub slot : ReleasePre near far pc x
+  pub slot : SlotIn near far pc x
   pub low : 0 < parent
   pub high : parent ≤ length near
 

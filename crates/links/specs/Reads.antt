@@ -6,11 +6,23 @@ use mathlib.Core.Path.{_≡_}
 use lib.Dec.{eqb}
 use lib.ListN.{length}
 use Rattle.model.specs.Branch.{pick}
+use Rattle.model.specs.Limits.{capacityLimit}
 use Rattle.model.specs.Lent.{at}
 use Rattle.theory.specs.Slots.{parentAt, colorAt, Below, Parents}
 
 -- s is a slot of the array.
 pub record SlotOf (l : List ℕ) (s : ℕ) : Type 0 where
+  pub pos : 0 < s
+  pub top : s ≤ length l
+
+-- s is a slot of all three arrays, which are equally long and small, and in which every number is a slot or 0.
+pub record SlotIn (l r p : List ℕ) (s : ℕ) : Type 0 where
+  pub left : Below l
+  pub right : Below r
+  pub pc : Parents p
+  pub lr : length r ≡ length l
+  pub lp : length p ≡ length l
+  pub small : length l ≤ capacityLimit
   pub pos : 0 < s
   pub top : s ≤ length l
 

@@ -7,6 +7,7 @@ use Rattle.model.specs.Limits.{capacityLimit}
 use Rattle.theory.specs.Links.{links}
 use Rattle.theory.specs.Programs.{store, releaseAt}
 use Rattle.theory.specs.Slots.{put, putParent, putColor, Below, Parents}
+use Rattle.links.specs.Reads.{SlotIn}
 
 -- set
 pub record SetPre (l : List ℕ) (s v : ℕ) : Type 0 where
@@ -60,17 +61,7 @@ pub record SetColor (p : List ℕ) (s v : ℕ) (e : List ℕ) : Type 0 where
   pub parents : Parents e
   pub same : length e ≡ length p
 
--- release: every number is a slot or 0, the arrays are equally long and small, and s is a slot.
-pub record ReleasePre (l r p : List ℕ) (s : ℕ) : Type 0 where
-  pub left : Below l
-  pub right : Below r
-  pub pc : Parents p
-  pub lr : length r ≡ length l
-  pub lp : length p ≡ length l
-  pub small : length l ≤ capacityLimit
-  pub pos : 0 < s
-  pub top : s ≤ length l
-
+-- release
 pub record Released (l r p : List ℕ) (s : ℕ) (l' r' p' : List ℕ) : Type 0 where
   pub is : (t : ℕ) → links l' r' p' t ≡ releaseAt (links l r p t) s
   pub left : Below l'
@@ -80,9 +71,9 @@ pub record Released (l r p : List ℕ) (s : ℕ) (l' r' p' : List ℕ) : Type 0 
   pub same-right : length r' ≡ length r
   pub same-pc : length p' ≡ length p
 
--- set_links: beside that, the children a and b, the parent v and the colour c can be stored.
+-- set_links: beside the slot, the children a and b, the parent v and the colour c can be stored.
 pub record SetLinksPre (l r p : List ℕ) (s a b v c : ℕ) : Type 0 where
-  pub slot : ReleasePre l r p s
+  pub slot : SlotIn l r p s
   pub first : a ≤ length l
   pub second : b ≤ length l
   pub parent : v ≤ length l

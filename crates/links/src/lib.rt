@@ -10,9 +10,10 @@ ghost use Prim.Native.Nat.{_≤_};
 ghost use lib.ListN.{length};
 ghost use Rattle.model.specs.Branch.{pick as choice};
 ghost use Rattle.model.specs.Lent.{at};
-ghost use Rattle.links.specs.Reads.{SlotOf, GetPre, Got, ParentPre, GotParent, GotColor, GotLinked, GotRed};
+ghost use Rattle.links.specs.Reads.{SlotOf, SlotIn, GetPre, Got, ParentPre, GotParent, GotColor, GotLinked};
+ghost use Rattle.links.specs.Reads.{GotRed};
 ghost use Rattle.links.specs.Writes.{SetPre, Set, SetParentColorPre, SetParentColor, SetParentPre, SetParent};
-ghost use Rattle.links.specs.Writes.{SetColorPre, SetColor, SetLinksPre, SetLinks, ReleasePre, Released, SetKey};
+ghost use Rattle.links.specs.Writes.{SetColorPre, SetColor, SetLinksPre, SetLinks, Released, SetKey};
 
 // The most slots.
 pub const CAPACITY: usize = 2048;
@@ -142,7 +143,7 @@ pub fn set_links(
 
 // The slot becomes unlinked.
 pub fn release(left: &mut [u32], right: &mut [u32], pc: &mut [u32], slot: Slot)
-    requires { ⌜ ReleasePre (now left) (now right) (now pc) (slot .0) ⌝ }
+    requires { ⌜ SlotIn (now left) (now right) (now pc) (slot .0) ⌝ }
     ensures { λ _. ⌜ Released (now (left .entry)) (now (right .entry)) (now (pc .entry)) (slot .0)
         (now (left .exit)) (now (right .exit)) (now (pc .exit)) ⌝ }
 {

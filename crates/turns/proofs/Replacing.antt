@@ -9,8 +9,8 @@ use Rattle.theory.specs.Links.{links}
 use Rattle.theory.specs.Programs.{replaceIn}
 use Rattle.theory.specs.Places.{Bounded, Made}
 use Rattle.theory.proofs.Sided.{sided-near, sided-far, sided-parent, sided-color, sided-adopt}
-use Rattle.links.specs.Reads.{Got, GotParent, GotColor}
-use Rattle.links.specs.Writes.{SetLinksPre, SetLinks, ReleasePre, Released}
+use Rattle.links.specs.Reads.{SlotIn, Got, GotParent, GotColor}
+use Rattle.links.specs.Writes.{SetLinksPre, SetLinks, Released}
 use Rattle.turns.specs.Turns.{AdoptPre, Adopted, ReplaceChildPre, ReplacedChild, ReplaceWithPre}
 
 module _ {left right pc : List ℕ} {root old new p : ℕ} (k : ReplaceWithPre left right pc root old new)
@@ -62,7 +62,7 @@ module _ {left right pc : List ℕ} {root old new p : ℕ} (k : ReplaceWithPre l
           }
 
       module _ {left₃ right₃ pc₃ : List ℕ} (s : SetLinks left₁ right₁ pc₂ new a b p c left₃ right₃ pc₃) where
-        pub with-release : ReleasePre left₃ right₃ pc₃ old
+        pub with-release : SlotIn left₃ right₃ pc₃ old
         with-release =
             let before = with-links .slot in
             record {

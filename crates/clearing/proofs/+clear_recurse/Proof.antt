@@ -7,7 +7,8 @@ use borrow.Fn.Kinds.{In}
 use borrow.Fn.PlainCycle.{Measures, is, falls, and}
 use Rattle.links.proofs.get.Reads as get-reads
 use Rattle.links.proofs.release.Reads as release-reads
-use Rattle.clearing.proofs.Steps.{cleared-zero, cleared-none, bounded-from, release-asked, cleared-node}
+use Rattle.links.proofs.Spots.{slot-in}
+use Rattle.clearing.proofs.Steps.{cleared-zero, cleared-none, bounded-from, cleared-node}
 use Rattle.clearing.proofs.clear_recurse.Reads as reads
 use Rattle.clearing.proofs.clear_recurse.Kinds as kinds
 use Rattle.clearing.proofs.+clear_recurse.Lts-clear_recurse as lts
@@ -75,7 +76,7 @@ module _ (t : ℕ) where
       let some = left-call .before .before .before .before .before .before in
       let clear = right-call .clear-recurse2 .ensures in
       let same = clear .same ∙ left-call .clear-recurse .ensures .same in
-      release-asked (clear .bounded) (omega (arith, some .if2 .left))
+      slot-in (clear .bounded) (omega (arith, some .if2 .left))
       (omega (arith, some .if2 .left, some .before .before .before .before .before .before .pre .1 .top, same))
 
   same-length : lts.Need-same-length calls here reads.Post
