@@ -1,0 +1,3 @@
+-- Why the queries keep their promises.
+pub mod Searching
+pub mod Stepping
