@@ -110,12 +110,12 @@ module _ {near far pc : List ℕ} {root p : ℕ} {code : Code} (tested : Positio
 -- ---- next and prev
 
 module _ {left right pc key : List ℕ} {root : ℕ} (well : WellFormed (lent left right pc key root)) where
-  -- what their call asks for
-  pub next-step : StepPre right left pc root
-  next-step = record { side = rgt; keys = key; sides = record { well = well } }
+  -- what their call asks for, in either order of the child arrays
+  pub step-rightward : StepPre right left pc root
+  step-rightward = record { side = rgt; keys = key; sides = record { well = well } }
 
-  pub prev-step : StepPre left right pc root
-  prev-step = record { side = lft; keys = key; sides = record { well = well } }
+  pub step-leftward : StepPre left right pc root
+  step-leftward = record { side = lft; keys = key; sides = record { well = well } }
 
   -- what they promise
   module _ {p : ℕ} {answer : Answer} where

@@ -1,11 +1,11 @@
 -- `queries::next` meets its contract. Assumes nothing.
 use borrow.Author.Needs.{needs}
-use Rattle.queries.proofs.Stepping.{next-step, next-stepped}
+use Rattle.queries.proofs.Stepping.{step-rightward, step-leftward, next-stepped}
 use Rattle.queries.proofs.next.Statement.{statement}
 use Rattle.queries.proofs.next.Tie as tie
 
 step-requires : tie.Need-step-requires
-step-requires c κs = search (needs, next-step)
+step-requires c κs = search (needs, step-rightward, step-leftward)
 
 returns : tie.Need-returns
 returns c = search (needs, next-stepped)
