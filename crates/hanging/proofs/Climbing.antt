@@ -23,10 +23,11 @@ use Rattle.theory.proofs.Places.{spot-low, spot-high, spot-bounded, spot-parent
 use Rattle.theory.proofs.Places.{spot-side}
 use Rattle.theory.proofs.Depth.{spot-ups}
 use Rattle.links.specs.Reads.{redAt}
+use Rattle.links.proofs.Colors.{spot-red}
 use Rattle.hanging.specs.Recolors.{redOr, grandAt, uncleAt, UnclePre, RedUncle, crownAt, recolorAt, RecolorPre}
 use Rattle.hanging.specs.Recolors.{Recolored}
 use Rattle.hanging.specs.Climbs.{PostInsertPre, redUncle, FinishPre, finishIn}
-use Rattle.hanging.proofs.Colors.{spot-red, child-red, spot-down}
+use Rattle.hanging.proofs.Colors.{child-red, spot-down}
 use Rattle.hanging.proofs.Finishing.{climbed, climbed-is, finished-is}
 
 -- ---- what red_uncle tells of the tree

@@ -25,9 +25,9 @@ use Rattle.theory.proofs.Places.{flip, spot-low, spot-high, spot-bounded, spot-
 use Rattle.theory.proofs.Depth.{spot-deep}
 use Rattle.links.specs.Reads.{GetPre, Got, ParentPre, GotParent, redAt, GotRed}
 use Rattle.links.proofs.Reading.{sided-red}
+use Rattle.links.proofs.Colors.{red-some, spot-red}
 use Rattle.turns.proofs.Mirrors.{to-left, to-right}
 use Rattle.hanging.specs.Climbs.{FinishAtPre, finishAt, PostInsertPre, redUncle, FinishPre, finishIn}
-use Rattle.hanging.proofs.Colors.{red-some, spot-red}
 
 -- ---- on the tree
 

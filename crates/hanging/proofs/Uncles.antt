@@ -10,9 +10,9 @@ use Rattle.theory.specs.Slots.{parentAt}
 use Rattle.theory.proofs.Slots.{parent-putColor}
 use Rattle.links.specs.Reads.{GetPre, Got, ParentPre, GotParent, redAt, GotRed}
 use Rattle.links.specs.Writes.{SetColor}
+use Rattle.links.proofs.Colors.{red-some}
 use Rattle.hanging.specs.Recolors.{redOr, RedOrNone, grandAt, uncleAt, UnclePre, RedUncle, crownAt, PaintPre}
 use Rattle.hanging.specs.Recolors.{Painted, recolorAt, RecolorPre, Recolored}
-use Rattle.hanging.proofs.Colors.{red-some}
 
 -- ---- red_or_none, by either branch
 

@@ -7,7 +7,7 @@ use native.Mathlib.Omega.{arith}
 use Rattle.model.specs.Tree.{Side, lft, rgt, opp, Color, Tree, nod, Frame, frame, plug}
 use Rattle.theory.specs.Places.{Bounded, Drawn, Spot}
 use Rattle.theory.proofs.Places.{spot-low, spot-high, spot-bounded}
-use Rattle.links.specs.Reads.{SlotOf, SlotIn, GetPre, Got, ParentPre, GotParent}
+use Rattle.links.specs.Reads.{SlotOf, SlotIn, GetPre, ParentPre}
 use Rattle.links.specs.Writes.{SetColorPre, SetColor}
 
 pub slot-in : {near far pc : List ℕ} {root x : ℕ} → Bounded near far pc root → 0 < x → x ≤ length near
@@ -24,8 +24,8 @@ slot-in b low high = record {
 }
 
 -- a slot of the tree that the arrays draw
-pub spot-in : {d : Side} {near far pc : List ℕ} {root C : ℕ} {e : Side} {c : Color} {a b : Tree} {x : ℕ} {w : List Frame}
-    → Spot d near far pc root C e c a x b w → SlotIn near far pc x
+pub spot-in : {d : Side} {near far pc : List ℕ} {root C : ℕ} {e : Side} {c : Color} {a b : Tree} {x : ℕ}
+    {w : List Frame} → Spot d near far pc root C e c a x b w → SlotIn near far pc x
 spot-in k = slot-in (spot-bounded k) (spot-low k) (spot-high k)
 
 -- the sibling of a place in that tree
@@ -58,26 +58,6 @@ module _ {near far pc : List ℕ} {x : ℕ} (k : SlotIn near far pc x) where
     value = bit;
     small = omega (arith, k .small, k .lp);
   }
-
-  -- ---- its far child and its parent, where they are slots
-
-  in-other : {y : ℕ} → 0 < y → y ≤ length near → SlotIn near far pc y
-  in-other low high = record {
-    left = k .left;
-    right = k .right;
-    pc = k .pc;
-    lr = k .lr;
-    lp = k .lp;
-    small = k .small;
-    pos = low;
-    top = high;
-  }
-
-  pub in-far : {y : ℕ} → Got far x y → 0 < y → SlotIn near far pc y
-  in-far g low = in-other low (omega (arith, g .top, k .lr))
-
-  pub in-up : {y : ℕ} → GotParent pc x y → 0 < y → SlotIn near far pc y
-  in-up g low = in-other low (omega (arith, g .top, k .lp))
 
   -- ---- after a colour is stored somewhere
 

@@ -31,7 +31,8 @@ use Rattle.mending.proofs.Turning.{far-turn-at}
 module _ {d : Side} {near far pc : List ℕ} {root C : ℕ} {b : Tree} {s : ℕ} {k : Color} {q : ℕ} {t : Tree}
     {w : List Frame} {z : ℕ} (is : z ≡ at near s) (tested : redAt pc z ≡ true) where
   near-turn-by : (c : Color) (a : Tree) (m : ℕ) (e : Tree)
-      → Spot d near far pc root C d c a m e (frame d black s b ∷ frame (opp d) k q t ∷ w) → NearTurnPre near far pc root s z
+      → Spot d near far pc root C d c a m e (frame d black s b ∷ frame (opp d) k q t ∷ w)
+      → NearTurnPre near far pc root s z
   near-turn-by black a m e spot =
       absurd (true≢false (sym tested ∙ ap (redAt pc) (is ∙ spot-near (spot-up spot)) ∙ spot-red spot))
   near-turn-by red a m e spot = rw (is ∙ spot-near (spot-up spot)) (record {

@@ -16,11 +16,12 @@ use Rattle.theory.specs.Links.{drawn, redIn, setColor}
 use Rattle.theory.specs.Rounds.{passes}
 use Rattle.theory.specs.Places.{siblingOf, Firm, Solid}
 use Rattle.theory.proofs.Counts.{slot-low}
-use Rattle.theory.proofs.Reading.{near-drawn, far-drawn, parent-drawn, color-drawn, far-place, far-low, paint-far-drawn}
+use Rattle.theory.proofs.Reading.{near-drawn, far-drawn, parent-drawn, color-drawn, far-place, paint-far-drawn}
 use Rattle.theory.proofs.Reading.{paint-far-sound, near-red-drawn, far-red-drawn}
-use Rattle.theory.proofs.Removing.{sibling-drawn}
+use Rattle.theory.proofs.Removing.{sibling-drawn, sibling-low}
 use Rattle.mending.specs.Passes.{redBelow, passIn}
 
+-- the test of a red slot, at a node
 red-drawn : {C : ℕ} (d : Side) (c : Color) (near : Tree) (x : ℕ) (far : Tree) (w : List Frame)
     → Sound C (plug (nod d c near x far) w)
     → redIn (drawn C (plug (nod d c near x far) w)) x ≡ eqb (colorCode c) 0
@@ -29,6 +30,7 @@ red-drawn d c near x far w h =
     let low = slot-low d c near x far w h in
     rw (ne-eqb x 0 (λ i. omega arith), color-drawn d c near x far w h)
 
+-- its tests are those of `passes`
 module _ (k : Color) (a : Tree) (s : ℕ) (b : Tree) where
   pass-tests : (d : Side) (q : ℕ) (c : Color) (w : List Frame)
       → pick (eqb (colorCode k) 0) 0 (pick (isRed a || isRed b) 0 (pick (eqb (colorCode c) 0) 0 (siblingOf w)))
@@ -38,7 +40,8 @@ module _ (k : Color) (a : Tree) (s : ℕ) (b : Tree) where
     where
       go : (k : Color) (below : Bool) (c : Color) (w : List Frame)
           → pick (eqb (colorCode k) 0) 0 (pick below 0 (pick (eqb (colorCode c) 0) 0 (siblingOf w)))
-          ≡ pick (pick (isRed (node k a s b)) false (pick below false (pick (rootOrRed c w) false true))) (siblingOf w) 0
+          ≡ pick (pick (isRed (node k a s b)) false (pick below false (pick (rootOrRed c w) false true)))
+          (siblingOf w) 0
       go red below c w = refl
       go black true c w = refl
       go black false red w = refl
@@ -65,21 +68,11 @@ module _ {C : ℕ} (d : Side) (c : Color) (q : ℕ) (t : Tree) (w : List Frame) 
         sibling-drawn c (on (opp d) here t) q (on (opp d) t here) w h′,
       ) (pass-tests k a s b d q c w)
 
-  -- it tells the next sibling where the missing black is passed up, else 0
+  -- pass tells the next sibling where the missing black is passed up, else 0
   pub pass-drawn : (u : Tree) → Firm d u → Sound C (plug t (frame d c q u ∷ w))
       → passIn (drawn C (plug t (frame d c q u ∷ w))) (topOf u) ≡ pick (passes (frame d c q u ∷ w)) (siblingOf w) 0
   pass-drawn leaf none h = absurd none
   pass-drawn (node k a s b) firm h = pass-node k a s b h
-
-  -- where it is passed up, there is one
-  pub sibling-more : rootOrRed c w ≡ false → Solid w → Sound C (plug t w) → 0 < siblingOf w
-  sibling-more = go c w
-    where
-      go : (c : Color) (w : List Frame) → rootOrRed c w ≡ false → Solid w → Sound C (plug t w) → 0 < siblingOf w
-      go red w goes solid h = absurd (true≢false goes)
-      go black [] goes solid h = absurd (true≢false goes)
-      go black (frame e k p leaf ∷ w) goes solid h = absurd (solid .0)
-      go black (frame e k p (node j a y b) ∷ w) goes solid h = far-low e k t p j a y b w h
 
   -- the sibling turns red
   pub red-sibling : (u : Tree) → Firm d u → Sound C (plug t (frame d c q u ∷ w))
@@ -88,3 +81,10 @@ module _ {C : ℕ} (d : Side) (c : Color) (q : ℕ) (t : Tree) (w : List Frame) 
   red-sibling leaf none h = absurd none
   red-sibling (node k a s b) firm h =
       (paint-far-drawn d c t q k a s b w h red, paint-far-sound d c t q k a s b w h red)
+
+-- where the missing black is passed up, there is a next sibling
+pub next-low : {C : ℕ} (t : Tree) (c : Color) (w : List Frame) → rootOrRed c w ≡ false → Solid w → Sound C (plug t w)
+    → 0 < siblingOf w
+next-low t red w goes solid h = absurd (true≢false goes)
+next-low t black [] goes solid h = absurd (true≢false goes)
+next-low t black (frame d c q u ∷ w) goes solid h = sibling-low t d c q u w (solid .0) h

@@ -24,7 +24,7 @@ use Rattle.links.proofs.Spots.{spot-in, in-set-color}
 use Rattle.mending.specs.Passes.{passIn, PassPre, Passed}
 use Rattle.mending.specs.Climbs.{Lacking, path, SinkEndPre}
 use Rattle.mending.proofs.Ending.{lack-beside}
-use Rattle.mending.proofs.Passes.{pass-drawn, sibling-more, red-sibling}
+use Rattle.mending.proofs.Passes.{pass-drawn, red-sibling, next-low}
 
 -- ---- where the climb stands
 
@@ -39,7 +39,7 @@ refilled-is {left} {right} {pc} {root} k =
     ∙ sink-drawn (length left) (k .place) (path k) refl
     (omega (arith, sound-deep (k .place) (path k) (k .held .sound), long (k .held))) (k .solid) (k .held .sound))
 
--- the place t at the end of the way w, with the sibling s
+-- the place t at the end of the way w lacks a black node, and s is its sibling
 pub record Onward (left right pc : List ℕ) (root C : ℕ) (t : Tree) (w : List Frame) (s : ℕ) : Type 0 where
   pub lacking : Lacking left right pc root s
   pub same : refilled lacking ≡ drawn C (refill t w)
@@ -81,9 +81,9 @@ pub refill-start : {left right pc : List ℕ} {root s : ℕ} → Lacking left ri
     → Refilling left right pc root s pc s
 refill-start k = record { lacking = k; same = sym (refilled-is k); long = refl }
 
-module _ {left right pc pc₁ : List ℕ} {root s u : ℕ} (z : Refilling left right pc root s pc₁ u) where
+module _ {left right pc pc₁ : List ℕ} {root s u : ℕ} (inv : Refilling left right pc root s pc₁ u) where
   k : Lacking left right pc₁ root u
-  k = z .lacking
+  k = inv .lacking
 
   pub refill-asked : PassPre left right pc₁ u
   refill-asked =
@@ -93,16 +93,15 @@ module _ {left right pc pc₁ : List ℕ} {root s u : ℕ} (z : Refilling left r
   pub refill-color : SetColorPre pc₁ u 0
   refill-color = in-set-color (spot-in (lack-beside k .spot)) (omega arith)
 
-  module _ {next : ℕ} (g : Passed left right pc₁ u next) where
+  module _ {next : ℕ} (told : Passed left right pc₁ u next) where
     next-is : next ≡ pick (passes (path k)) (siblingOf (k .way)) 0
-    next-is = g .is root ∙ (λ i. passIn (k .held .is i) (k .is i))
+    next-is = told .is root ∙ (λ i. passIn (k .held .is i) (k .is i))
         ∙ pass-drawn (k .side) (k .color) (k .parent) (k .place) (k .way) (k .sibling) (k .solid .0) (k .held .sound)
 
     last : next ≡ 0 → passes (path k) ≡ false
     last e = by-test (passes (path k))
         (λ is.
-        let low = sibling-more (k .side) (k .color) (k .parent)
-        (nod (k .side) (k .color) (k .place) (k .parent) (k .sibling)) (k .way)
+        let low = next-low (nod (k .side) (k .color) (k .place) (k .parent) (k .sibling)) (k .color) (k .way)
         (passes-tests (k .side) (k .color) (k .parent) (k .sibling) (k .way) is .2) (k .solid .1) (k .held .sound) in
         let same : next ≡ siblingOf (k .way) = next-is ∙ rw is refl in
         absurd (omega arith))
@@ -120,7 +119,7 @@ module _ {left right pc pc₁ : List ℕ} {root s u : ℕ} (z : Refilling left r
         = (λ i. sinkEnd (k .held .is i) (k .is i))
         ∙ sink-end-drawn (k .side) (k .color) (k .parent) (k .sibling) (k .place) (k .way) (last e)
         (k .solid .0) (k .held .sound) in
-        record { is = m .is ∙ ended ∙ z .same; bounded = m .bounded; same = m .same }
+        record { is = m .is ∙ ended ∙ inv .same; bounded = m .bounded; same = m .same }
 
     module _ (n : next ≡ 0 → ⊥) {pc₂ : List ℕ} (painted : SetColor pc₁ u 0 pc₂) where
       goes : passes (path k) ≡ true
@@ -149,9 +148,10 @@ module _ {left right pc pc₁ : List ℕ} {root s u : ℕ} (z : Refilling left r
       refill-on = record {
         lacking = gone .lacking;
         same = gone .same
-            ∙ ap (drawn (k .size)) (sym (refill-pass (k .side) (k .color) (k .parent) (k .sibling) (k .way) (k .place) goes))
-            ∙ z .same;
-        long = painted .same ∙ z .long;
+            ∙ ap (drawn (k .size))
+            (sym (refill-pass (k .side) (k .color) (k .parent) (k .sibling) (k .way) (k .place) goes))
+            ∙ inv .same;
+        long = painted .same ∙ inv .long;
       }
 
       pub refill-less : steps-left left pc₂ next < steps-left left pc₁ u

@@ -64,7 +64,8 @@ pub record Mendable (C : ℕ) (c : Color) (n : Tree) (w : List Frame) : Type 0 w
   pub sound : Sound C (plug n w)
   pub solid : c ≡ black → Solid w
 
-sibling-low : {C : ℕ} (t : Tree) (d : Side) (c : Color) (q : ℕ) (s : Tree) (w : List Frame) → Firm d s
+-- such a sibling is a slot
+pub sibling-low : {C : ℕ} (t : Tree) (d : Side) (c : Color) (q : ℕ) (s : Tree) (w : List Frame) → Firm d s
     → Sound C (plug t (frame d c q s ∷ w)) → 1 ≤ topOf s
 sibling-low t d c q leaf w o h = absurd o
 sibling-low t d c q (node k a s b) w o h = far-low d c t q k a s b w h
@@ -103,48 +104,73 @@ one-drawn fuel d c n x w le b h =
 
 -- ---- a node x with two children: y, inside the right one, comes up in its place
 
-sibling-same : (v : List Frame) (c : Color) (x y : ℕ) (l : Tree) (w : List Frame)
+-- the sibling of y's place is the same whichever of the two is above
+pub sibling-same : (v : List Frame) (c : Color) (x y : ℕ) (l : Tree) (w : List Frame)
     → siblingOf (v ++ frame rgt c x l ∷ w) ≡ siblingOf (v ++ frame rgt c y l ∷ w)
 sibling-same [] c x y l w = refl
 sibling-same (frame d k p s ∷ v) c x y l w = refl
 
-two-drawn : {C : ℕ} (fuel : ℕ) (k : Color) (y : ℕ) (n : Tree) (v : List Frame) (c : Color) (l : Tree) (x : ℕ)
-    (w : List Frame)
-    → length (v ++ frame rgt c x l ∷ w) ≤ fuel → Balanced (plug (node k leaf y n) (v ++ frame rgt c x l ∷ w))
-    → Sound C (plug (node k leaf y n) (v ++ frame rgt c x l ∷ w))
-    → removeTwo fuel (drawn C (plug (node k leaf y n) (v ++ frame rgt c x l ∷ w))) x y
-    ≡ drawn C (mend k n (v ++ frame rgt c y l ∷ w))
-unfolding removeTwo
-two-drawn {C} fuel k y n v c l x w le b h =
-    let before = v ++ frame rgt c x l ∷ w in let after = v ++ frame rgt c y l ∷ w in
-    let low = slot-low lft k leaf y n before h in let high = slot-high lft k leaf y n before h in
-    let e₁ : plug n before ≡ plug (node c l x (plug n v)) w = plug-append n v (frame rgt c x l ∷ w) in
-    let e₂ : plug n after ≡ plug (node c l y (plug n v)) w = plug-append n v (frame rgt c y l ∷ w) in
-    let gone : count (plug n before) y ≡ 0
-    = omega (arith, h .once y, count-plug (node k leaf y n) before y, count-plug n before y, one-same y) in
-    let h₁ : Sound C (plug (node c l x (plug n v)) w) = rw e₁ at (detach-sound rgt k n y before h) in
-    let fresh : count (plug (node c l x (plug n v)) w) y ≡ 0 = rw e₁ at gone in
-    let h₂ : Sound C (plug n after) = rw e₂ (replace-sound c l x (plug n v) w y low h₁ fresh high) in
-    let b₁ : Balanced (plug (node c l x (plug (node k leaf y n) v)) w)
-    = rw (plug-append (node k leaf y n) v (frame rgt c x l ∷ w)) at b in
-    let b₂ : Balanced (plug (node k leaf y n) after)
-    = rw (plug-append (node k leaf y n) v (frame rgt c y l ∷ w))
-    (renamed-balanced c l x y (plug (node k leaf y n) v) w b₁) in
-    let moved : replaceIn (drawn C (plug n before)) x y ≡ drawn C (plug n after)
-    = rw (e₁, e₂) (replace-drawn c l x (plug n v) w y low h₁ fresh) in
-    rw (
-      far-drawn lft k leaf y n before h,
-      detach-drawn rgt k n y before h,
-      moved,
-      color-drawn lft k leaf y n before h,
-      sibling-drawn k leaf y n before h,
-      sibling-same v c x y l w,
-    )
-    (mend-drawn fuel k n after
-    (omega (arith, length-append v (frame rgt c x l ∷ w), length-append v (frame rgt c y l ∷ w)))
-    (mendable rgt k n y after b₂ h₂))
+module _ {C : ℕ} (k : Color) (y : ℕ) (n : Tree) (v : List Frame) (c : Color) (l : Tree) (x : ℕ) (w : List Frame)
+    (h : Sound C (plug (node k leaf y n) (v ++ frame rgt c x l ∷ w))) where
+  -- y has left its place to its child n
+  pub left-sound : Sound C (plug (node c l x (plug n v)) w)
+  left-sound =
+      rw (plug-append n v (frame rgt c x l ∷ w)) at (detach-sound rgt k n y (v ++ frame rgt c x l ∷ w) h)
 
-first-slot : (c : Color) (l : Tree) (x : ℕ) (r : Tree) (w : List Frame)
+  left-count : count (plug n (v ++ frame rgt c x l ∷ w)) y ≡ 0
+  left-count =
+      let before = v ++ frame rgt c x l ∷ w in
+      omega (arith, h .once y, count-plug (node k leaf y n) before y, count-plug n before y, one-same y)
+
+  left-fresh : count (plug (node c l x (plug n v)) w) y ≡ 0
+  left-fresh = rw (plug-append n v (frame rgt c x l ∷ w)) at left-count
+
+  low : 1 ≤ y
+  low = slot-low lft k leaf y n (v ++ frame rgt c x l ∷ w) h
+
+  -- and comes up in the place of x
+  pub moved-drawn : replaceIn (drawn C (plug n (v ++ frame rgt c x l ∷ w))) x y
+      ≡ drawn C (plug n (v ++ frame rgt c y l ∷ w))
+  moved-drawn =
+      rw (plug-append n v (frame rgt c x l ∷ w), plug-append n v (frame rgt c y l ∷ w))
+      (replace-drawn c l x (plug n v) w y low left-sound left-fresh)
+
+  moved-sound : Sound C (plug n (v ++ frame rgt c y l ∷ w))
+  moved-sound =
+      rw (plug-append n v (frame rgt c y l ∷ w))
+      (replace-sound c l x (plug n v) w y low left-sound left-fresh
+      (slot-high lft k leaf y n (v ++ frame rgt c x l ∷ w) h))
+
+  pub moved-mendable : Balanced (plug (node k leaf y n) (v ++ frame rgt c x l ∷ w))
+      → Mendable C k n (v ++ frame rgt c y l ∷ w)
+  moved-mendable b =
+      let b₁ : Balanced (plug (node c l x (plug (node k leaf y n) v)) w)
+      = rw (plug-append (node k leaf y n) v (frame rgt c x l ∷ w)) at b in
+      mendable rgt k n y (v ++ frame rgt c y l ∷ w)
+      (rw (plug-append (node k leaf y n) v (frame rgt c y l ∷ w))
+      (renamed-balanced c l x y (plug (node k leaf y n) v) w b₁)) moved-sound
+
+  two-drawn : (fuel : ℕ) → length (v ++ frame rgt c x l ∷ w) ≤ fuel
+      → Balanced (plug (node k leaf y n) (v ++ frame rgt c x l ∷ w))
+      → removeTwo fuel (drawn C (plug (node k leaf y n) (v ++ frame rgt c x l ∷ w))) x y
+      ≡ drawn C (mend k n (v ++ frame rgt c y l ∷ w))
+  unfolding removeTwo
+  two-drawn fuel le b =
+      let before = v ++ frame rgt c x l ∷ w in
+      rw (
+        far-drawn lft k leaf y n before h,
+        detach-drawn rgt k n y before h,
+        moved-drawn,
+        color-drawn lft k leaf y n before h,
+        sibling-drawn k leaf y n before h,
+        sibling-same v c x y l w,
+      )
+      (mend-drawn fuel k n (v ++ frame rgt c y l ∷ w)
+      (omega (arith, length-append v (frame rgt c x l ∷ w), length-append v (frame rgt c y l ∷ w)))
+      (moved-mendable b))
+
+-- the first node of a tree has the first of its slots
+pub first-slot : (c : Color) (l : Tree) (x : ℕ) (r : Tree) (w : List Frame)
     → firstOf c l x r w .slot ≡ firstSlot (slots (node c l x r))
 first-slot c leaf x r w = refl
 first-slot c (node k a y b) x r w =
@@ -188,6 +214,5 @@ remove-drawn {C} fuel c (node k a y e) x (node q d z g) w le b h =
       end-drawn lft fuel r (frame rgt c x l ∷ w) z-low (omega arith) h,
       ← first-slot q d z g [],
     )
-    (rw (← there) (two-drawn fuel (f .color) (f .slot) (f .right) (f .way) c l x w
-    (omega (arith, length-append (f .way) (frame rgt c x l ∷ w), first-length q d z g []))
-    (rw there b) (rw there h)))
+    (rw (← there) (two-drawn (f .color) (f .slot) (f .right) (f .way) c l x w (rw there h) fuel
+    (omega (arith, length-append (f .way) (frame rgt c x l ∷ w), first-length q d z g [])) (rw there b)))
