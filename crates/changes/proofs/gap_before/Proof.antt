@@ -1,0 +1,23 @@
+-- `changes::gap_before` meets its contract. Assumes nothing.
+use borrow.Author.Needs.{needs}
+use Rattle.changes.proofs.Besides.{beside-left, found-before}
+use Rattle.changes.proofs.Calls.{stands-position}
+use Rattle.changes.proofs.gap_before.Statement.{statement}
+use Rattle.changes.proofs.gap_before.Tie as tie
+
+prev-requires : tie.Need-prev-requires
+prev-requires c κs = search (needs, stands-position)
+
+beside-requires : tie.Need-beside-requires
+beside-requires c κs = search (needs, beside-left)
+
+returns : tie.Need-returns
+returns c =
+    let beside-e = c .beside .ensures in
+    let k0 = c .before in
+    let prev-e = k0 .prev .ensures in
+    let pre = k0 .before .before .before .before .before .pre in
+    found-before pre prev-e beside-e
+
+pub gap-before-spec : {M : Type 1} → statement M
+gap-before-spec = tie.close (tie.spec prev-requires beside-requires returns)
