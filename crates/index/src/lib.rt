@@ -1,5 +1,5 @@
-// The library: the twelve single calls over arrays that the caller lends, `entry`, and or_insert with an entry. Each call
-// first checks the arrays, then refuses in the order of the codes, then works; a refused call changes nothing.
+// The library: the twelve single calls over arrays that the caller lends, `entry`, and or_insert with an entry. Each
+// call first checks the arrays, then refuses in the order of the codes, then works; a refused call changes nothing.
 pub mod types;
 
 use descent::types::Entry;
@@ -13,8 +13,9 @@ ghost use mathlib.Core.Path.{_≡_};
 ghost use Rattle.model.specs.Lent.{lent};
 ghost use Rattle.model.specs.Check.{check as accepts};
 ghost use Rattle.model.specs.Commands as command;
-ghost use Rattle.model.specs.Operations.{perform, entryCall};
+ghost use Rattle.model.specs.Operations.{perform, entryCall, orInsertCall};
 ghost use Rattle.links.specs.Answers.{outcomeOf};
+ghost use Rattle.descent.specs.Entries.{entryTold};
 ghost use Rattle.index.specs.Found.{foundTold};
 
 // Whether the arrays are well formed: W1 to W6.
@@ -139,4 +140,173 @@ pub fn entry(left: &[u32], right: &[u32], pc: &[u32], key: &[u64], root: Slot, k
         code: Code::Done,
         entry,
     }
+}
+
+// Hangs a slot with its key, behind all keys that are not greater.
+pub fn insert(
+    left: &mut [u32],
+    right: &mut [u32],
+    pc: &mut [u32],
+    key: &mut [u64],
+    root: &mut u32,
+    slot: Slot,
+    k: Key,
+) -> Answer
+    ensures { λ answer. ⌜ outcomeOf answer
+        (lent (now (left .exit)) (now (right .exit)) (now (pc .exit)) (now (key .exit)) (now (root .exit)))
+        ≡ perform (command.insert (slot .0) (k .0))
+        (lent (now (left .entry)) (now (right .entry)) (now (pc .entry)) (now (key .entry)) (now (root .entry))) ⌝ }
+{
+    if !wellformed::check(left, right, pc, key, Slot(*root)) {
+        return refusals::refused(Code::Damaged);
+    }
+    changes::insert(left, right, pc, key, root, slot, k)
+}
+
+// Operation 2, or_insert with a fresh entry: the slot that holds the key, or the new one.
+pub fn find_or_insert(
+    left: &mut [u32],
+    right: &mut [u32],
+    pc: &mut [u32],
+    key: &mut [u64],
+    root: &mut u32,
+    slot: Slot,
+    k: Key,
+) -> Answer
+    ensures { λ answer. ⌜ outcomeOf answer
+        (lent (now (left .exit)) (now (right .exit)) (now (pc .exit)) (now (key .exit)) (now (root .exit)))
+        ≡ perform (command.orInsert (slot .0) (k .0))
+        (lent (now (left .entry)) (now (right .entry)) (now (pc .entry)) (now (key .entry)) (now (root .entry))) ⌝ }
+{
+    if !wellformed::check(left, right, pc, key, Slot(*root)) {
+        return refusals::refused(Code::Damaged);
+    }
+    changes::or_insert(left, right, pc, key, root, slot, k)
+}
+
+// The same with an entry at hand; Stale where `entry` would give another now.
+pub fn or_insert(
+    left: &mut [u32],
+    right: &mut [u32],
+    pc: &mut [u32],
+    key: &mut [u64],
+    root: &mut u32,
+    entry: Entry,
+    slot: Slot,
+    k: Key,
+) -> Answer
+    ensures { λ answer. ⌜ outcomeOf answer
+        (lent (now (left .exit)) (now (right .exit)) (now (pc .exit)) (now (key .exit)) (now (root .exit)))
+        ≡ orInsertCall (entryTold entry) (slot .0) (k .0)
+        (lent (now (left .entry)) (now (right .entry)) (now (pc .entry)) (now (key .entry)) (now (root .entry))) ⌝ }
+{
+    if !wellformed::check(left, right, pc, key, Slot(*root)) {
+        return refusals::refused(Code::Damaged);
+    }
+    changes::or_insert_at(left, right, pc, key, root, entry, slot, k)
+}
+
+// Takes a slot out and answers the one after it; its key stays.
+pub fn remove(
+    left: &mut [u32],
+    right: &mut [u32],
+    pc: &mut [u32],
+    key: &[u64],
+    root: &mut u32,
+    position: Slot,
+) -> Answer
+    ensures { λ answer. ⌜ outcomeOf answer
+        (lent (now (left .exit)) (now (right .exit)) (now (pc .exit)) (now (key .entry)) (now (root .exit)))
+        ≡ perform (command.remove (position .0))
+        (lent (now (left .entry)) (now (right .entry)) (now (pc .entry)) (now (key .entry)) (now (root .entry))) ⌝ }
+{
+    if !wellformed::check(left, right, pc, key, Slot(*root)) {
+        return refusals::refused(Code::Damaged);
+    }
+    changes::remove(left, right, pc, key, root, position)
+}
+
+// Hangs a slot with its key right behind a position; from 0 at the front.
+pub fn insert_after(
+    left: &mut [u32],
+    right: &mut [u32],
+    pc: &mut [u32],
+    key: &mut [u64],
+    root: &mut u32,
+    position: Slot,
+    slot: Slot,
+    k: Key,
+) -> Answer
+    ensures { λ answer. ⌜ outcomeOf answer
+        (lent (now (left .exit)) (now (right .exit)) (now (pc .exit)) (now (key .exit)) (now (root .exit)))
+        ≡ perform (command.insertAfter (position .0) (slot .0) (k .0))
+        (lent (now (left .entry)) (now (right .entry)) (now (pc .entry)) (now (key .entry)) (now (root .entry))) ⌝ }
+{
+    if !wellformed::check(left, right, pc, key, Slot(*root)) {
+        return refusals::refused(Code::Damaged);
+    }
+    changes::insert_after(left, right, pc, key, root, position, slot, k)
+}
+
+// Hangs a slot with its key right before a position; from 0 at the back.
+pub fn insert_before(
+    left: &mut [u32],
+    right: &mut [u32],
+    pc: &mut [u32],
+    key: &mut [u64],
+    root: &mut u32,
+    position: Slot,
+    slot: Slot,
+    k: Key,
+) -> Answer
+    ensures { λ answer. ⌜ outcomeOf answer
+        (lent (now (left .exit)) (now (right .exit)) (now (pc .exit)) (now (key .exit)) (now (root .exit)))
+        ≡ perform (command.insertBefore (position .0) (slot .0) (k .0))
+        (lent (now (left .entry)) (now (right .entry)) (now (pc .entry)) (now (key .entry)) (now (root .entry))) ⌝ }
+{
+    if !wellformed::check(left, right, pc, key, Slot(*root)) {
+        return refusals::refused(Code::Damaged);
+    }
+    changes::insert_before(left, right, pc, key, root, position, slot, k)
+}
+
+// Puts a slot with its key in the place of another, which is released.
+pub fn replace_with(
+    left: &mut [u32],
+    right: &mut [u32],
+    pc: &mut [u32],
+    key: &mut [u64],
+    root: &mut u32,
+    position: Slot,
+    slot: Slot,
+    k: Key,
+) -> Answer
+    ensures { λ answer. ⌜ outcomeOf answer
+        (lent (now (left .exit)) (now (right .exit)) (now (pc .exit)) (now (key .exit)) (now (root .exit)))
+        ≡ perform (command.replaceWith (position .0) (slot .0) (k .0))
+        (lent (now (left .entry)) (now (right .entry)) (now (pc .entry)) (now (key .entry)) (now (root .entry))) ⌝ }
+{
+    if !wellformed::check(left, right, pc, key, Slot(*root)) {
+        return refusals::refused(Code::Damaged);
+    }
+    changes::replace_with(left, right, pc, key, root, position, slot, k)
+}
+
+// All slots become unlinked; the keys stay.
+pub fn clear(
+    left: &mut [u32],
+    right: &mut [u32],
+    pc: &mut [u32],
+    key: &[u64],
+    root: &mut u32,
+) -> Answer
+    ensures { λ answer. ⌜ outcomeOf answer
+        (lent (now (left .exit)) (now (right .exit)) (now (pc .exit)) (now (key .entry)) (now (root .exit)))
+        ≡ perform command.clear
+        (lent (now (left .entry)) (now (right .entry)) (now (pc .entry)) (now (key .entry)) (now (root .entry))) ⌝ }
+{
+    if !wellformed::check(left, right, pc, key, Slot(*root)) {
+        return refusals::refused(Code::Damaged);
+    }
+    changes::clear(left, right, pc, key, root)
 }
