@@ -1,81 +1,38 @@
--- fill, or_insert and or_insert_at: what their calls ask for, and the promises.
+-- or_insert and or_insert_at: what their calls of fill ask for, and the promises.
 use Prim.Native.Nat.{ℕ}
 use mathlib.Core.Bool.{Bool, true, false}
-use mathlib.Core.Logic.{⊎-elim}
 use mathlib.Core.Option.{some}
 use mathlib.Core.Path.{_≡_, refl, sym, _∙_}
-use native.Mathlib.Omega.{arith}
 use Rattle.model.specs.Lent.{Lent, keyOf, treeOf}
 use Rattle.model.specs.WellFormed.{WellFormed}
-use Rattle.model.specs.Descent.{findLanding, entryFor}
+use Rattle.model.specs.Descent.{entryFor}
 use Rattle.model.specs.Commands.{orInsert}
 use Rattle.model.specs.Answers.{Code, Answer, Outcome, done, stale, isDone, slotTest, sameEntry, staleTest}
 use Rattle.model.specs.Answers.{thenTest, entryRefusal, unlessRefused}
-use Rattle.model.specs.Operations.{hangAt, enter, accept, accepted, operate}
-use Rattle.theory.specs.Descents.{Unmet}
+use Rattle.model.specs.Operations.{accepted, operate}
 use Rattle.theory.proofs.Holds.{well-holds}
-use Rattle.theory.proofs.Bounds.{insert-plug}
-use Rattle.theory.proofs.Finds.{entry-cases, sameEntry-same}
+use Rattle.theory.proofs.Finds.{sameEntry-same}
 use Rattle.theory.proofs.Operate.{tests-orInsert}
-use Rattle.descent.specs.declared.types.Cursor.{Cursor}
-use Rattle.descent.specs.declared.types.InsertCursor.{InsertCursor}
 use Rattle.descent.specs.declared.types.Entry.{Entry}
-use Rattle.descent.specs.declared.types.Entry.the-variants.{Occupied, Vacant}
 use Rattle.descent.specs.declared.types.Sought.{Sought}
-use Rattle.descent.specs.Entries.{placeTold, entryTold}
+use Rattle.descent.specs.Entries.{entryTold}
 use Rattle.descent.specs.Searches.{FoundEntry}
 use Rattle.descent.proofs.Trees.{entry-holds, entry-probes}
 use Rattle.refusals.specs.Tested.{SlotTested}
-use Rattle.changes.specs.Places.{HangPre, HungAt, FillPre}
-use Rattle.changes.proofs.Calls.{answer-done, new-free}
-use Rattle.changes.proofs.Hanging.{told-at, new-refused}
-
--- ---- fill
-
--- where the entry is occupied, its slot is answered
-pub filled-occupied : {m : Lent} {entry : Entry} {held : Cursor} {n s k : ℕ} {r : Answer} → entry ≡ Occupied held
-    → FillPre m (entryTold entry) n s k → r ≡ record { code = done; probes = n; slot = held .slot .0 }
-    → record { answer = r; after = m } ≡ accepted (orInsert s k) m
-unfolding accepted accept enter
-filled-occupied told v e = rw (← v .entry-is, told, e, v .probes-is)
-
--- where it is vacant, the slot is hung there
-module _ {m : Lent} {entry : Entry} {place : InsertCursor} {n s k : ℕ} (told : entry ≡ Vacant place)
-    (v : FillPre m (entryTold entry) n s k) where
-  found : placeTold place ≡ entryFor (keyOf (m .arrays)) k (treeOf m)
-  found = rw told at (v .entry-is)
-
-  -- no slot has the key
-  unmet : Unmet (keyOf (m .arrays)) k (treeOf m)
-  unmet =
-      ⊎-elim (λ held. let z : _≡_ {A = ℕ} 0 1 = cc (held .1 .entry, found) in absurd (omega arith)) (λ u. u)
-      (entry-cases (keyOf (m .arrays)) k (treeOf m) (well-holds m (v .well) .rising))
-
-  pub fill-hang : HangPre m place s
-  fill-hang =
-      record {
-        well = v .well;
-        way = findLanding (keyOf (m .arrays)) k (treeOf m) .way;
-        whole = rw (unmet .same) (insert-plug (keyOf (m .arrays)) k (treeOf m));
-        there = told-at (rw (unmet .same) (found ∙ unmet .entry));
-        free = v .free;
-      }
-
-  pub filled-vacant : {m′ : Lent} {r : Answer} → HungAt m place s k m′
-      → r ≡ record { code = done; probes = n; slot = s }
-      → record { answer = r; after = m′ } ≡ accepted (orInsert s k) m
-  unfolding accepted accept enter hangAt fill-hang
-  filled-vacant hung e = rw (← found, e, v .probes-is, hung .is fill-hang)
+use Rattle.placing.specs.Places.{FillPre}
+use Rattle.changes.proofs.Calls.{answer-done, new-refused, new-free}
 
 -- ---- or_insert
 
 module _ {m : Lent} {s : ℕ} (well : WellFormed m) {code : Code} (test : SlotTested (m .arrays .pc) s code) where
+  -- the slot is refused
   pub or-insert-refused : (k : ℕ) {r : Answer} → isDone code ≡ false
       → r ≡ record { code = code; probes = 0; slot = 0 }
       → record { answer = r; after = m } ≡ operate (orInsert s k) m
   or-insert-refused k f e = new-refused (orInsert s k) m (tests-orInsert m s k) test f e
 
   module _ (passed : code ≡ done) where
+    -- what the call of fill asks for
     pub or-insert-fill : {k : ℕ} {sought : Sought}
         → FoundEntry (m .arrays .left) (m .arrays .right) (m .arrays .key) (m .root) k sought
         → FillPre m (entryTold (sought .entry)) (sought .probes) s k
@@ -87,6 +44,7 @@ module _ {m : Lent} {s : ℕ} (well : WellFormed m) {code : Code} (test : SlotTe
           probes-is = entry-probes (well-holds m well) f;
         }
 
+    -- done
     pub or-inserted : (k : ℕ) {o : Outcome} → o ≡ accepted (orInsert s k) m → o ≡ operate (orInsert s k) m
     unfolding accepted
     or-inserted k e =
@@ -119,7 +77,7 @@ module _ {m : Lent} {s : ℕ} (well : WellFormed m) {code : Code} (test : SlotTe
     unfolding entryRefusal thenTest staleTest unlessRefused
     at-stale g e = rw (slot-code, passed, ← now, g, e)
 
-    -- it holds
+    -- it holds: what the call of fill asks for, and done
     pub at-fill : same ≡ true → FillPre m (entryTold entry) (sought .probes) s k
     at-fill g =
         let v = or-insert-fill well test passed f in

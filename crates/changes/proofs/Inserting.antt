@@ -1,126 +1,50 @@
--- insert_in, insert_after and insert_before: what their calls ask for, and the promises, the last two for one side d.
-use Prim.Native.Nat.{ℕ, _≤_}
-use mathlib.Core.Bool.{Bool, true, false}
-use mathlib.Core.List.{List·Memᴰ}
-use mathlib.Core.Logic.{_⊎_}
+-- insert: what its call of hang_at asks for, and the promise.
+use Prim.Native.Nat.{ℕ}
+use mathlib.Core.Bool.{false}
 use mathlib.Core.Path.{_≡_, refl, sym, _∙_}
-use native.Mathlib.Omega.{arith}
-use lib.ListN.{length}
-use Rattle.model.specs.Branch.{choose}
-use Rattle.model.specs.Tree.{Side, lft, rgt, Tree, opp, slots}
-use Rattle.model.specs.Lent.{Lent, at, keyOf, treeOf}
+use Rattle.model.specs.Lent.{Lent, keyOf, treeOf}
 use Rattle.model.specs.WellFormed.{WellFormed}
-use Rattle.model.specs.Order.{nextIn, prevIn}
-use Rattle.model.specs.Hanging.{hang}
-use Rattle.model.specs.Answers.{Code, Answer, Outcome, outcome, done, outOfOrder, isDone, placedTest, thenTest, refusal}
-use Rattle.model.specs.Operations.{withPlaced, accept, operate}
-use Rattle.theory.specs.Between.{bothTest, between}
-use Rattle.theory.specs.Lists.{facing, placeNext}
+use Rattle.model.specs.Descent.{insertLanding}
+use Rattle.model.specs.Commands.{insert}
+use Rattle.model.specs.Answers.{Code, Answer, done, isDone}
+use Rattle.model.specs.Operations.{hangAt, accept, operate}
 use Rattle.theory.proofs.Holds.{well-holds}
-use Rattle.theory.proofs.Positions.{placeNext-plug, placeAfter-next, placeBefore-next}
-use Rattle.theory.proofs.Operate.{tests-after, tests-before, placed-after, placed-before}
-use Rattle.refusals.specs.Tested.{PositionTested, BothTested, Beside}
-use Rattle.refusals.proofs.Callers.{between-keys}
-use Rattle.changes.specs.declared.types.Gap.{Gap}
-use Rattle.changes.specs.Positions.{Stands, Free}
-use Rattle.changes.specs.Places.{HangPre, HungAt, earlierOf, GapAt, InsertPre, insertNext, InsertedIn}
-use Rattle.changes.proofs.Placing.{placing-refused, placing-stands, placing-free, placing-decided}
-use Rattle.changes.proofs.Besides.{gap-high, next-slot}
+use Rattle.theory.proofs.Bounds.{insert-plug}
+use Rattle.theory.proofs.Operate.{tests-insert}
+use Rattle.descent.specs.declared.types.Path.{Path}
+use Rattle.descent.specs.declared.types.InsertCursor.{InsertCursor}
+use Rattle.descent.specs.Searches.{FoundPath, FoundPlace}
+use Rattle.descent.proofs.Trees.{insert-probes, insert-holds}
+use Rattle.refusals.specs.Tested.{SlotTested}
+use Rattle.placing.specs.Places.{HangPre, HungAt}
+use Rattle.placing.proofs.Hanging.{told-at}
+use Rattle.changes.proofs.Calls.{answer-done, new-refused, new-free}
 
--- ---- insert_in
+module _ {m : Lent} {s : ℕ} (well : WellFormed m) {code : Code} (test : SlotTested (m .arrays .pc) s code) where
+  -- the slot is refused
+  pub insert-refused : (k : ℕ) {r : Answer} → isDone code ≡ false → r ≡ record { code = code; probes = 0; slot = 0 }
+      → record { answer = r; after = m } ≡ operate (insert s k) m
+  insert-refused k f e = new-refused (insert s k) m (tests-insert m s k) test f e
 
-fitting : (m : Lent) (g : Gap) (k : ℕ) {fits : Bool}
-    → fits ≡ between (at (m .arrays .key)) (g .earlier .0) k (g .later .0)
-    → between (keyOf (m .arrays)) (g .earlier .0) k (g .later .0) ≡ fits
-fitting m g k test = sym (test ∙ between-keys (m .arrays) (g .earlier .0) k (g .later .0))
-
-module _ {m : Lent} {g : Gap} {s k : ℕ} {fits : Bool} where
-  -- the key is refused
-  pub in-refused : {r : Answer} → fits ≡ between (at (m .arrays .key)) (g .earlier .0) k (g .later .0) → fits ≡ false
-      → r ≡ record { code = outOfOrder; probes = 0; slot = 0 } → InsertedIn m g s k (record { answer = r; after = m })
-  in-refused test f e = record { is = λ v. rw (fitting m g k test, f, e) }
-
-  -- done
-  pub in-done : {m′ : Lent} {r : Answer} → fits ≡ between (at (m .arrays .key)) (g .earlier .0) k (g .later .0)
-      → fits ≡ true → HungAt m (g .place) s k m′ → r ≡ record { code = done; probes = 0; slot = s }
-      → InsertedIn m g s k (record { answer = r; after = m′ })
-  in-done test f hung e = record { is = λ v. rw (fitting m g k test, f, e, hung .is v) }
-
--- ---- insert_after and insert_before
-
-tests-next : (d : Side) (m : Lent) (p s k : ℕ) → refusal (insertNext d p s k) m
-    ≡ thenTest (bothTest false p s (m .arrays)) (λ _. placedTest (insertNext d p s k) m)
-tests-next lft m p s k = tests-before m p s k
-tests-next rgt m p s k = tests-after m p s k
-
-accepts-next : (d : Side) (p s k : ℕ) (key : ℕ → ℕ) (t : Tree) (m : Lent)
-    → accept (insertNext d p s k) key t m ≡ outcome done 0 s (withPlaced (hang s (placeNext d p t)) s k m)
-unfolding accept
-accepts-next lft p s k key t m = rw (placeBefore-next p t)
-accepts-next rgt p s k key t m = rw (placeAfter-next p t)
-
-module _ {m : Lent} {p s : ℕ} (well : WellFormed m) {first code : Code}
-    (position : PositionTested false (m .arrays .pc) p first) (both : BothTested (m .arrays .pc) first s code) where
-  -- the position or the slot is refused
-  pub next-refused : (d : Side) (k : ℕ) {r : Answer} → isDone code ≡ false
-      → r ≡ record { code = code; probes = 0; slot = 0 }
-      → record { answer = r; after = m } ≡ operate (insertNext d p s k) m
-  next-refused d k f e = placing-refused (insertNext d p s k) m (tests-next d m p s k) position both f e
-
-  module _ (passed : code ≡ done) where
-    pub next-stands : Stands m p
-    next-stands = placing-stands well position both passed
-
-    free : Free m s
-    free = placing-free well position both passed
-
-    placed-next : (d : Side) (k : ℕ) → let n = nextIn p (facing d (slots (treeOf m))) in
-        placedTest (insertNext d p s k) m
-        ≡ choose (between (keyOf (m .arrays)) (earlierOf d p n) k (earlierOf (opp d) p n))
-        (λ _. done) (λ _. outOfOrder)
-    unfolding prevIn
-    placed-next lft k = placed-before (well-holds m well) p s k (free .absent) (next-stands .here)
-    placed-next rgt k = placed-after (well-holds m well) p s k (free .absent) (next-stands .here)
-
-    slot-key : (x : ℕ) → (x ≡ 0) ⊎ List·Memᴰ x (slots (treeOf m)) → x ≤ length (m .arrays .key)
-    slot-key x here = omega (arith, gap-high x well here, well .w1 .lengths .key)
-
-    next-beside : (d : Side) → let n = nextIn p (facing d (slots (treeOf m))) in
-        Beside (m .arrays .key) (earlierOf d p n) (earlierOf (opp d) p n)
-    next-beside lft =
+  module _ (passed : code ≡ done) {k : ℕ} {p : Path}
+      (path : FoundPath (m .arrays .left) (m .arrays .right) (m .arrays .key) (m .root) k false p)
+      {place : InsertCursor} (found : FoundPlace (m .arrays .key) (p .last .0) k place) where
+    -- what the call of hang_at asks for
+    pub insert-hang : HangPre m place s
+    insert-hang =
         record {
-          earlier-top = slot-key _ (next-slot lft p (treeOf m));
-          later-top = slot-key p (next-stands .here);
-        }
-    next-beside rgt =
-        record {
-          earlier-top = slot-key p (next-stands .here);
-          later-top = slot-key _ (next-slot rgt p (treeOf m));
+          well = well;
+          way = insertLanding (keyOf (m .arrays)) k (treeOf m) .way;
+          whole = insert-plug (keyOf (m .arrays)) k (treeOf m);
+          there = told-at (insert-holds (well-holds m well) path found);
+          free = new-free well test passed;
         }
 
-    module _ {d : Side} {g : Gap} (gap : GapAt d m p g) where
-      pub next-pre : InsertPre m g s
-      next-pre =
-          record {
-            place = record {
-              well = well;
-              way = placeNext d p (treeOf m);
-              whole = placeNext-plug d p (treeOf m) (well-holds m well .sound) (next-stands .here);
-              there = gap .there;
-              free = free;
-            };
-            beside = rw (gap .earlier-is, gap .later-is) (next-beside d);
-          }
-
-      pub next-inserted : {k : ℕ} {o : Outcome} → InsertedIn m g s k o → o ≡ operate (insertNext d p s k) m
-      unfolding next-pre
-      next-inserted {k} into =
-          let n = nextIn p (facing d (slots (treeOf m))) in
-          into .is (next-pre .place)
-          ∙ rw (
-            gap .earlier-is,
-            gap .later-is,
-            ← accepts-next d p s k (keyOf (m .arrays)) (treeOf m) m,
-          )
-          (placing-decided (insertNext d p s k) m (tests-next d m p s k) position both well passed
-          (between (keyOf (m .arrays)) (earlierOf d p n) k (earlierOf (opp d) p n)) (placed-next d k))
+    -- done
+    pub inserted : {m′ : Lent} {r : Answer} → HungAt m place s k m′
+        → r ≡ record { code = done; probes = p .probes; slot = s }
+        → record { answer = r; after = m′ } ≡ operate (insert s k) m
+    unfolding accept hangAt insert-hang
+    inserted hung e =
+        answer-done well (insert s k) (tests-insert m s k ∙ sym (test .is (m .arrays) refl) ∙ passed)
+        (rw (e, hung .is insert-hang, insert-probes (well-holds m well) path))

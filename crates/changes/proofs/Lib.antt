@@ -1,11 +1,9 @@
 -- Why the operations keep their promises: first what they share, then a file for each.
 pub mod Calls
-pub mod Placing
-pub mod Hanging
-pub mod Comparing
-pub mod Entering
-pub mod Besides
+pub mod Positions
 pub mod Inserting
-pub mod Replacing
+pub mod Entering
 pub mod Removing
+pub mod Neighbours
+pub mod Replacing
 pub mod Clearing

@@ -25,11 +25,11 @@ use Rattle.removal.specs.Removals.{Removable}
 use Rattle.removal.proofs.Trees.{remove-asked, remove-lent}
 use Rattle.refusals.specs.Tested.{PositionTested}
 use Rattle.refusals.proofs.Callers.{answer-refused}
-use Rattle.changes.specs.Positions.{Stands}
-use Rattle.changes.proofs.Calls.{answer-done, stands-position}
+use Rattle.placing.specs.Positions.{Stands}
+use Rattle.placing.proofs.Positions.{stands-position}
+use Rattle.changes.proofs.Calls.{answer-done}
 
-module _ {m : Lent} {p : ℕ} (well : WellFormed m) {code : Code}
-    (test : PositionTested true (m .arrays .pc) p code) where
+module _ {m : Lent} {p : ℕ} (well : WellFormed m) {code : Code} (test : PositionTested true (m .arrays .pc) p code) where
   tested : code ≡ positionTest true (some p) (m .arrays)
   tested = test .is (m .arrays) refl
 

@@ -1,78 +1,59 @@
--- may_stand and replace_with: what their calls ask for, and the promises.
+-- replace_with: what its calls ask for, and the promise.
 use Prim.Native.Nat.{ℕ}
 use mathlib.Core.Bool.{Bool, true, false}
 use mathlib.Core.List.{List, List·Memᴰ}
-use mathlib.Core.Path.{_≡_, refl, ap, sym, _∙_}
+use mathlib.Core.Path.{_≡_, refl, ap, _∙_}
 use native.Mathlib.Omega.{arith}
 use Rattle.model.specs.Branch.{choose}
 use Rattle.model.specs.Tree.{slots}
-use Rattle.model.specs.Lent.{Lent, lent, at, keyOf, treeOf}
+use Rattle.model.specs.Lent.{Lent, lent, keyOf, treeOf}
 use Rattle.model.specs.WellFormed.{WellFormed}
 use Rattle.model.specs.Commands.{replaceWith}
 use Rattle.model.specs.Answers.{Code, Answer, done, outOfOrder, refused, isDone}
 use Rattle.model.specs.Removal.{replaced}
 use Rattle.model.specs.Operations.{accept, operate}
-use Rattle.theory.specs.Between.{between}
 use Rattle.theory.specs.Links.{Links, linksOf}
 use Rattle.theory.specs.Places.{Made}
 use Rattle.theory.specs.Programs.{replaceIn}
 use Rattle.theory.proofs.Drawings.{replace-drawing}
 use Rattle.theory.proofs.Lists.{member-count}
 use Rattle.theory.proofs.Holds.{well-holds}
-use Rattle.theory.proofs.HoldsDrawn.{holds-drawn}
+use Rattle.theory.proofs.HoldsDrawn.{holds-drawn, holds-bounded}
 use Rattle.theory.proofs.Operate.{tests-replace, placed-replace}
 use Rattle.links.specs.Reads.{SlotOf}
 use Rattle.links.specs.Writes.{SetKey}
-use Rattle.walks.specs.Steps.{Followed, Preceded}
 use Rattle.turns.specs.Turns.{ReplaceWithPre}
 use Rattle.refusals.specs.Tested.{PositionTested, BothTested}
-use Rattle.refusals.proofs.Callers.{between-keys}
-use Rattle.changes.specs.Positions.{Stands, Free, Fits}
-use Rattle.changes.proofs.Calls.{well-bounded, free-count, free-key, stands-position}
-use Rattle.changes.proofs.Calls.{placed-lent}
-use Rattle.changes.proofs.Placing.{placing-refused, placing-stands, placing-node, placing-free}
-use Rattle.changes.proofs.Placing.{placing-decided}
-
--- ---- may_stand
-
-pub stand-fits : {m : Lent} {p earlier later k : ℕ} {fits : Bool} → Stands m p
-    → Preceded (m .arrays .left) (m .arrays .right) (m .arrays .pc) (m .root) p earlier
-    → Followed (m .arrays .left) (m .arrays .right) (m .arrays .pc) (m .root) p later
-    → fits ≡ between (at (m .arrays .key)) earlier k later → Fits m p k fits
-unfolding stands-position
-stand-fits {m} {p} {earlier} {later} {k} v before after e =
-    record {
-      is =
-          rw (← before .is (stands-position v), ← after .is (stands-position v))
-          (e ∙ between-keys (m .arrays) earlier k later);
-    }
-
--- ---- replace_with
+use Rattle.placing.specs.Positions.{Stands, Free, Fits}
+use Rattle.placing.proofs.Positions.{free-count, free-key}
+use Rattle.placing.proofs.Hanging.{placed-lent}
+use Rattle.changes.proofs.Positions.{position-refused, position-stands, position-node, position-free}
+use Rattle.changes.proofs.Positions.{position-decided}
 
 module _ {m : Lent} {p s : ℕ} (well : WellFormed m) {first code : Code}
     (position : PositionTested true (m .arrays .pc) p first) (both : BothTested (m .arrays .pc) first s code) where
   -- the position or the slot is refused
   pub replace-refused : (k : ℕ) {r : Answer} → isDone code ≡ false → r ≡ record { code = code; probes = 0; slot = 0 }
       → record { answer = r; after = m } ≡ operate (replaceWith p s k) m
-  replace-refused k f e = placing-refused (replaceWith p s k) m (tests-replace m p s k) position both f e
+  replace-refused k f e = position-refused (replaceWith p s k) m (tests-replace m p s k) position both f e
 
   module _ (passed : code ≡ done) where
     -- what its calls ask for
     pub replace-stands : Stands m p
-    replace-stands = placing-stands well position both passed
+    replace-stands = position-stands well position both passed
 
     here : List·Memᴰ p (slots (treeOf m))
-    here = placing-node well position both passed refl
+    here = position-node well position both passed refl
 
     free : Free m s
-    free = placing-free well position both passed
+    free = position-free well position both passed
 
     pub replace-pre : ReplaceWithPre (m .arrays .left) (m .arrays .right) (m .arrays .pc) (m .root) p s
     replace-pre =
         let sound = well-holds m well .sound in
         let some = member-count (treeOf m) p here in
         record {
-          bounded = well-bounded well;
+          bounded = holds-bounded (well-holds m well);
           old-low = sound .low p some;
           old-high = omega (arith, sound .high p some, well .w1 .lengths .left);
           new-low = free .low;
@@ -88,7 +69,7 @@ module _ {m : Lent} {p s : ℕ} (well : WellFormed m) {first code : Code}
           (λ _. accept (replaceWith p s k) (keyOf (m .arrays)) (treeOf m) m)
           (λ _. refused outOfOrder m) ≡ operate (replaceWith p s k) m
       decided {b} e =
-          placing-decided (replaceWith p s k) m (tests-replace m p s k) position both well passed b
+          position-decided (replaceWith p s k) m (tests-replace m p s k) position both well passed b
           (placed-replace (well-holds m well) p s k (free .absent) here ∙ rw (← test .is, e))
 
       -- the key is refused

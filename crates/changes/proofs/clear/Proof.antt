@@ -1,12 +1,13 @@
 -- `changes::clear` meets its contract. Assumes nothing.
 use borrow.Author.Needs.{needs}
-use Rattle.changes.proofs.Calls.{well-bounded}
+use Rattle.theory.proofs.Holds.{well-holds}
+use Rattle.theory.proofs.HoldsDrawn.{holds-bounded}
 use Rattle.changes.proofs.Clearing.{cleared}
 use Rattle.changes.proofs.clear.Statement.{statement}
 use Rattle.changes.proofs.clear.Tie as tie
 
 clear-requires : tie.Need-clear-requires
-clear-requires c κs = search (needs, well-bounded)
+clear-requires c κs = search (needs, holds-bounded, well-holds)
 
 done-requires : tie.Need-done-requires
 done-requires c κs = search needs

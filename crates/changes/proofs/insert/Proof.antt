@@ -1,7 +1,9 @@
 -- `changes::insert` meets its contract. Assumes nothing.
 use borrow.Author.Needs.{needs}
+use Rattle.theory.proofs.Holds.{well-holds}
+use Rattle.descent.proofs.Trees.{holds-searchable}
 use Rattle.refusals.proofs.Callers.{matched-done, matched-other}
-use Rattle.changes.proofs.Hanging.{well-searchable, insert-refused, insert-hang, inserted}
+use Rattle.changes.proofs.Inserting.{insert-refused, insert-hang, inserted}
 use Rattle.changes.proofs.insert.Statement.{statement}
 use Rattle.changes.proofs.insert.Tie as tie
 
@@ -21,7 +23,7 @@ returns : tie.Need-returns
 returns c = search (needs, insert-refused, matched-other)
 
 path-requires : tie.Need-path-requires
-path-requires c κs = search (needs, well-searchable)
+path-requires c κs = search (needs, holds-searchable, well-holds)
 
 place-requires : tie.Need-place-requires
 place-requires c κs = search needs

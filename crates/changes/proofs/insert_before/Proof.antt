@@ -2,7 +2,7 @@
 use borrow.Author.Needs.{needs}
 use Rattle.model.specs.Tree.{lft}
 use Rattle.refusals.proofs.Callers.{matched-done, matched-other}
-use Rattle.changes.proofs.Inserting.{next-refused, next-stands, next-pre, next-inserted}
+use Rattle.changes.proofs.Neighbours.{next-refused, next-stands, next-pre, next-inserted}
 use Rattle.changes.proofs.insert_before.Statement.{statement}
 use Rattle.changes.proofs.insert_before.Tie as tie
 

@@ -1,7 +1,8 @@
 -- `changes::or_insert` meets its contract. Assumes nothing.
 use borrow.Author.Needs.{needs}
+use Rattle.theory.proofs.Holds.{well-holds}
+use Rattle.descent.proofs.Trees.{holds-searchable}
 use Rattle.refusals.proofs.Callers.{matched-done, matched-other}
-use Rattle.changes.proofs.Hanging.{well-searchable}
 use Rattle.changes.proofs.Entering.{or-insert-refused, or-insert-fill, or-inserted}
 use Rattle.changes.proofs.or_insert.Statement.{statement}
 use Rattle.changes.proofs.or_insert.Tie as tie
@@ -22,7 +23,7 @@ returns : tie.Need-returns
 returns c = search (needs, or-insert-refused, matched-other)
 
 entry-requires : tie.Need-entry-requires
-entry-requires c κs = search (needs, well-searchable)
+entry-requires c κs = search (needs, holds-searchable, well-holds)
 
 fill-requires : tie.Need-fill-requires
 fill-requires c κs =

@@ -1,8 +1,9 @@
 -- `changes::or_insert_at` meets its contract. Assumes nothing.
 use borrow.Author.Needs.{needs}
 use borrow.Author.Tests.{not-true, not-false}
+use Rattle.theory.proofs.Holds.{well-holds}
+use Rattle.descent.proofs.Trees.{holds-searchable}
 use Rattle.refusals.proofs.Callers.{matched-done, matched-other}
-use Rattle.changes.proofs.Hanging.{well-searchable}
 use Rattle.changes.proofs.Entering.{at-refused, at-stale, at-fill, at-inserted}
 use Rattle.changes.proofs.or_insert_at.Statement.{statement}
 use Rattle.changes.proofs.or_insert_at.Tie as tie
@@ -23,7 +24,7 @@ returns : tie.Need-returns
 returns c = search (needs, at-refused, matched-other)
 
 entry-requires : tie.Need-entry-requires
-entry-requires c κs = search (needs, well-searchable)
+entry-requires c κs = search (needs, holds-searchable, well-holds)
 
 same-entry-requires : tie.Need-same-entry-requires
 same-entry-requires c κs = search needs

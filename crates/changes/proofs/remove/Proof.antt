@@ -1,7 +1,7 @@
 -- `changes::remove` meets its contract. Assumes nothing.
 use borrow.Author.Needs.{needs}
 use Rattle.refusals.proofs.Callers.{matched-done, matched-other}
-use Rattle.changes.proofs.Calls.{stands-position}
+use Rattle.placing.proofs.Positions.{stands-position}
 use Rattle.changes.proofs.Removing.{remove-refused, remove-stands, remove-pre, removed-done}
 use Rattle.changes.proofs.remove.Statement.{statement}
 use Rattle.changes.proofs.remove.Tie as tie

@@ -2,8 +2,8 @@
 use borrow.Author.Needs.{needs}
 use borrow.Author.Tests.{not-true, not-false}
 use Rattle.refusals.proofs.Callers.{matched-done, matched-other}
-use Rattle.changes.proofs.Replacing.{replace-outOfOrder, replaced-done}
-use Rattle.changes.proofs.Replacing.{replace-refused, replace-stands, replace-pre, replace-key}
+use Rattle.changes.proofs.Replacing.{replace-outOfOrder, replaced-done, replace-refused, replace-stands}
+use Rattle.changes.proofs.Replacing.{replace-pre, replace-key}
 use Rattle.changes.proofs.replace_with.Statement.{statement}
 use Rattle.changes.proofs.replace_with.Tie as tie
 
@@ -123,8 +123,7 @@ returns-3 c =
     let k6 = k5 .before .before in
     let test-node-e = k6 .test-node .ensures in
     let pre = k6 .before .before .before .before .before .before .pre in
-    replaced-done pre test-node-e test-both-e (matched-done _ told) may-stand-e (not-false _ if1-left) replace-with-e set-key-e
-    done-e
+    replaced-done pre test-node-e test-both-e (matched-done _ told) may-stand-e (not-false _ if1-left) replace-with-e set-key-e done-e
 
 pub replace-with-spec : {M : Type 1} → statement M
 replace-with-spec =

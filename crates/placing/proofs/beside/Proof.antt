@@ -1,8 +1,8 @@
--- `changes::beside` meets its contract. Assumes nothing.
+-- `placing::beside` meets its contract. Assumes nothing.
 use borrow.Author.Needs.{needs}
-use Rattle.changes.proofs.Besides.{beside-front, beside-lacking, beside-child}
-use Rattle.changes.proofs.beside.Statement.{statement}
-use Rattle.changes.proofs.beside.Tie as tie
+use Rattle.placing.proofs.Besides.{beside-front, beside-lacking, beside-child}
+use Rattle.placing.proofs.beside.Statement.{statement}
+use Rattle.placing.proofs.beside.Tie as tie
 
 returns : tie.Need-returns
 returns c = search (needs, beside-front)

@@ -1,8 +1,8 @@
--- `changes::hang_at` meets its contract. Assumes nothing.
+-- `placing::hang_at` meets its contract. Assumes nothing.
 use borrow.Author.Needs.{needs}
-use Rattle.changes.proofs.Hanging.{hang-vacant, hung-at}
-use Rattle.changes.proofs.hang_at.Statement.{statement}
-use Rattle.changes.proofs.hang_at.Tie as tie
+use Rattle.placing.proofs.Hanging.{hang-vacant, hung-at}
+use Rattle.placing.proofs.hang_at.Statement.{statement}
+use Rattle.placing.proofs.hang_at.Tie as tie
 
 insert-at-requires : tie.Need-insert-at-requires
 insert-at-requires c κs = search (needs, hang-vacant)

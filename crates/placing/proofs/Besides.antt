@@ -1,18 +1,16 @@
--- beside, gap_after and gap_before: the code finds the place next to a position where the model has it.
-use Prim.Native.Nat.{ℕ, _≤_, _<_}
+-- beside: the code finds the place next to a position where the model has it.
+use Prim.Native.Nat.{ℕ, _<_}
 use mathlib.Core.Bool.{Bool, true, false, not}
 use mathlib.Core.List.{List, [], _∷_, reverse, List·Memᴰ, List·Memᴰ·head, List·Memᴰ·tail}
 use mathlib.Core.Logic.{_⊎_, inl, inr, ⊎-elim, ⊎-map}
-use mathlib.Core.Path.{_≡_, refl, ap, sym, _∙_}
+use mathlib.Core.Path.{_≡_, refl, sym, _∙_}
 use native.Mathlib.Omega.{arith}
 use lib.Dec.{eqb}
 use borrow.Author.Tests.{eq-eqb, ne-eqb}
-use Rattle.model.specs.Branch.{choose, pick}
 use Rattle.model.specs.Tree.{Side, lft, rgt, Tree, leaf, node, opp, nod, isLeaf, topOf, slots, Frame, frame, plug}
 use Rattle.model.specs.Tree.{above, sideOf}
 use Rattle.model.specs.Lent.{Lent, at, capacity, treeOf}
-use Rattle.model.specs.WellFormed.{WellFormed}
-use Rattle.model.specs.Order.{firstSlot, following, nextIn, prevIn}
+use Rattle.model.specs.Order.{firstSlot, following, nextIn}
 use Rattle.model.specs.Descent.{vacant}
 use Rattle.model.specs.Operations.{placeBeside, lacksChild}
 use Rattle.theory.specs.Sound.{Sound}
@@ -22,7 +20,7 @@ use Rattle.theory.specs.Holds.{Holds}
 use Rattle.theory.specs.Links.{linksOf, children}
 use Rattle.theory.specs.Places.{Drawn, Spot}
 use Rattle.theory.proofs.Branch.{by-test}
-use Rattle.theory.proofs.Lists.{member-count, member-reverse, sound-zero}
+use Rattle.theory.proofs.Lists.{member-reverse, sound-zero}
 use Rattle.theory.proofs.Focus.{standing, placeBeside-at, placeBeside-none, lacksChild-at, lacksChild-none}
 use Rattle.theory.proofs.Counts.{slot-low}
 use Rattle.theory.proofs.Sides.{opp-opp}
@@ -30,12 +28,10 @@ use Rattle.theory.proofs.Places.{flip, spot-near}
 use Rattle.theory.proofs.Holds.{well-holds}
 use Rattle.theory.proofs.HoldsDrawn.{holds-drawn}
 use Rattle.links.specs.Reads.{Got}
-use Rattle.walks.specs.Steps.{Followed, Preceded}
 use Rattle.descent.specs.declared.types.InsertCursor.{InsertCursor}
 use Rattle.descent.specs.Entries.{sideIf, placeTold}
-use Rattle.changes.specs.Positions.{Stands}
-use Rattle.changes.specs.Places.{At, besideAt, BesidePre, FoundBeside, GapAt}
-use Rattle.changes.proofs.Calls.{well-bounded, stands-position}
+use Rattle.placing.specs.Positions.{Stands}
+use Rattle.placing.specs.Places.{At, besideAt, FoundBeside}
 
 -- ---- beside: there is no position, it has no child on that side, or it has one
 
@@ -156,43 +152,3 @@ beside-at d {m} {p} {n} {place} v next e =
     (at-beside d p t (h .sound) (inr here) (e ∙ rw (ne-eqb p 0 some, none, opp-opp d))))
     (λ child. rw (lacks h d p here, child) (far (e ∙ rw (ne-eqb p 0 some, child)))))
     (v .here)
-
--- ---- gap_after and gap_before
-
-pub gap-high : {m : Lent} (p : ℕ) → WellFormed m → (p ≡ 0) ⊎ List·Memᴰ p (slots (treeOf m)) → p ≤ capacity (m .arrays)
-gap-high {m} p well here =
-    ⊎-elim (λ e. omega arith) (λ there. well-holds m well .sound .high p (member-count (treeOf m) p there)) here
-
-module _ {m : Lent} {p : ℕ} (v : Stands m p) where
-  -- what the call of beside asks for
-  pub beside-right : BesidePre (m .arrays .right) p
-  beside-right =
-      record {
-        top = omega (arith, gap-high p (v .well) (v .here), v .well .w1 .lengths .right);
-        below = well-bounded (v .well) .far-below;
-      }
-
-  pub beside-left : BesidePre (m .arrays .left) p
-  beside-left =
-      record {
-        top = omega (arith, gap-high p (v .well) (v .here), v .well .w1 .lengths .left);
-        below = well-bounded (v .well) .near-below;
-      }
-
-  module _ {n : ℕ} {place : InsertCursor} where
-    -- the promises
-    pub found-after : Followed (m .arrays .left) (m .arrays .right) (m .arrays .pc) (m .root) p n
-        → FoundBeside (m .arrays .right) p n true place
-        → GapAt rgt m p (record { earlier = record { 0 = p }; later = record { 0 = n }; place = place })
-    unfolding stands-position
-    found-after next f =
-        let is = next .is (stands-position v) in
-        record { earlier-is = refl; later-is = is; there = beside-at rgt v is (f .is) }
-
-    pub found-before : Preceded (m .arrays .left) (m .arrays .right) (m .arrays .pc) (m .root) p n
-        → FoundBeside (m .arrays .left) p n false place
-        → GapAt lft m p (record { earlier = record { 0 = n }; later = record { 0 = p }; place = place })
-    unfolding stands-position prevIn
-    found-before next f =
-        let is = next .is (stands-position v) in
-        record { earlier-is = is; later-is = refl; there = beside-at lft v is (f .is) }

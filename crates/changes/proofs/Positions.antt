@@ -17,7 +17,7 @@ use Rattle.theory.proofs.Holds.{well-holds}
 use Rattle.theory.proofs.Operate.{operate-refused, operate-accepted, both-done}
 use Rattle.refusals.specs.Tested.{PositionTested, BothTested}
 use Rattle.refusals.proofs.Callers.{both-tested, answer-refused}
-use Rattle.changes.specs.Positions.{Stands, Free}
+use Rattle.placing.specs.Positions.{Stands, Free}
 
 module _ {m : Lent} (well : WellFormed m) {needed : Bool} {p s : ℕ} {first code : Code}
     (position : PositionTested needed (m .arrays .pc) p first) (both : BothTested (m .arrays .pc) first s code)
@@ -27,31 +27,31 @@ module _ {m : Lent} (well : WellFormed m) {needed : Bool} {p s : ℕ} {first cod
   fitting = both-done (well-holds m well) needed p s (sym (both-tested position both (m .arrays) refl) ∙ passed)
 
   -- a position and a new slot that pass their tests
-  pub placing-stands : Stands m p
-  placing-stands = record { well = well; here = ⊎-elim (λ e. inl (e .0)) inr (fitting .0) }
+  pub position-stands : Stands m p
+  position-stands = record { well = well; here = ⊎-elim (λ e. inl (e .0)) inr (fitting .0) }
 
-  pub placing-node : needed ≡ true → List·Memᴰ p (slots (treeOf m))
-  placing-node e = ⊎-elim (λ n. clash (sym (n .1) ∙ e)) (λ here. here) (fitting .0)
+  pub position-node : needed ≡ true → List·Memᴰ p (slots (treeOf m))
+  position-node e = ⊎-elim (λ n. clash (sym (n .1) ∙ e)) (λ here. here) (fitting .0)
 
-  pub placing-free : Free m s
-  placing-free = record { low = fitting .1; high = fitting .2; absent = fitting .3 }
+  pub position-free : Free m s
+  position-free = record { low = fitting .1; high = fitting .2; absent = fitting .3 }
 
 module _ (c : Command) (m : Lent) {needed : Bool} {p s : ℕ}
     (tests : refusal c m ≡ thenTest (bothTest needed p s (m .arrays)) (λ _. placedTest c m)) {first code : Code}
     (position : PositionTested needed (m .arrays .pc) p first) (both : BothTested (m .arrays .pc) first s code) where
   -- the position or the new slot is refused
-  pub placing-refused : {r : Answer} → isDone code ≡ false → r ≡ record { code = code; probes = 0; slot = 0 }
+  pub position-refused : {r : Answer} → isDone code ≡ false → r ≡ record { code = code; probes = 0; slot = 0 }
       → record { answer = r; after = m } ≡ operate c m
   unfolding thenTest
-  placing-refused f e = answer-refused c m e (rw (tests, ← both-tested position both (m .arrays) refl, f)) f
+  position-refused f e = answer-refused c m e (rw (tests, ← both-tested position both (m .arrays) refl, f)) f
 
   -- both pass, and the order of the keys decides
   passes : {order : Code} → code ≡ done → placedTest c m ≡ order → refusal c m ≡ order
   unfolding thenTest
   passes passed order = tests ∙ rw (← both-tested position both (m .arrays) refl, passed) order
 
-  pub placing-decided : WellFormed m → code ≡ done → (fits : Bool)
+  pub position-decided : WellFormed m → code ≡ done → (fits : Bool)
       → placedTest c m ≡ choose fits (λ _. done) (λ _. outOfOrder)
       → choose fits (λ _. accept c (keyOf (m .arrays)) (treeOf m) m) (λ _. refused outOfOrder m) ≡ operate c m
-  placing-decided well passed true order = sym (operate-accepted (well-holds m well) c (passes passed order))
-  placing-decided well passed false order = sym (operate-refused c m outOfOrder (passes passed order) refl)
+  position-decided well passed true order = sym (operate-accepted (well-holds m well) c (passes passed order))
+  position-decided well passed false order = sym (operate-refused c m outOfOrder (passes passed order) refl)

@@ -1,9 +1,9 @@
--- `changes::insert_in` meets its contract. Assumes nothing.
+-- `placing::insert_in` meets its contract. Assumes nothing.
 use borrow.Author.Needs.{needs}
-use Rattle.changes.proofs.Inserting.{in-refused, in-done}
 use borrow.Author.Tests.{not-true, not-false}
-use Rattle.changes.proofs.insert_in.Statement.{statement}
-use Rattle.changes.proofs.insert_in.Tie as tie
+use Rattle.placing.proofs.Gaps.{in-refused, in-done}
+use Rattle.placing.proofs.insert_in.Statement.{statement}
+use Rattle.placing.proofs.insert_in.Tie as tie
 
 in-order-requires : tie.Need-in-order-requires
 in-order-requires c κs = search needs

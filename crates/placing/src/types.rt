@@ -1,4 +1,4 @@
-// What the operations of this crate hand on to each other.
+// What is found beside a position.
 use descent::types::InsertCursor;
 use links::types::Slot;
 

@@ -1,9 +1,9 @@
--- `changes::gap_before` meets its contract. Assumes nothing.
+-- `placing::gap_before` meets its contract. Assumes nothing.
 use borrow.Author.Needs.{needs}
-use Rattle.changes.proofs.Besides.{beside-left, found-before}
-use Rattle.changes.proofs.Calls.{stands-position}
-use Rattle.changes.proofs.gap_before.Statement.{statement}
-use Rattle.changes.proofs.gap_before.Tie as tie
+use Rattle.placing.proofs.Gaps.{beside-left, found-before}
+use Rattle.placing.proofs.Positions.{stands-position}
+use Rattle.placing.proofs.gap_before.Statement.{statement}
+use Rattle.placing.proofs.gap_before.Tie as tie
 
 prev-requires : tie.Need-prev-requires
 prev-requires c κs = search (needs, stands-position)

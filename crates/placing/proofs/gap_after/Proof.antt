@@ -1,9 +1,9 @@
--- `changes::gap_after` meets its contract. Assumes nothing.
+-- `placing::gap_after` meets its contract. Assumes nothing.
 use borrow.Author.Needs.{needs}
-use Rattle.changes.proofs.Besides.{beside-right, found-after}
-use Rattle.changes.proofs.Calls.{stands-position}
-use Rattle.changes.proofs.gap_after.Statement.{statement}
-use Rattle.changes.proofs.gap_after.Tie as tie
+use Rattle.placing.proofs.Gaps.{beside-right, found-after}
+use Rattle.placing.proofs.Positions.{stands-position}
+use Rattle.placing.proofs.gap_after.Statement.{statement}
+use Rattle.placing.proofs.gap_after.Tie as tie
 
 next-requires : tie.Need-next-requires
 next-requires c κs = search (needs, stands-position)

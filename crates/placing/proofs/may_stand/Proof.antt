@@ -1,9 +1,9 @@
--- `changes::may_stand` meets its contract. Assumes nothing.
+-- `placing::may_stand` meets its contract. Assumes nothing.
 use borrow.Author.Needs.{needs}
-use Rattle.changes.proofs.Calls.{stands-position}
-use Rattle.changes.proofs.Replacing.{stand-fits}
-use Rattle.changes.proofs.may_stand.Statement.{statement}
-use Rattle.changes.proofs.may_stand.Tie as tie
+use Rattle.placing.proofs.Positions.{stands-position}
+use Rattle.placing.proofs.Gaps.{stand-fits}
+use Rattle.placing.proofs.may_stand.Statement.{statement}
+use Rattle.placing.proofs.may_stand.Tie as tie
 
 prev-requires : tie.Need-prev-requires
 prev-requires c κs = search (needs, stands-position)

@@ -1,8 +1,8 @@
--- `changes::same_entry` meets its contract. Assumes nothing.
+-- `placing::same_entry` meets its contract. Assumes nothing.
 use borrow.Author.Needs.{needs}
-use Rattle.changes.proofs.Comparing.{same-occupied, same-vacant}
-use Rattle.changes.proofs.same_entry.Statement.{statement}
-use Rattle.changes.proofs.same_entry.Tie as tie
+use Rattle.placing.proofs.Entries.{same-occupied, same-vacant}
+use Rattle.placing.proofs.same_entry.Statement.{statement}
+use Rattle.placing.proofs.same_entry.Tie as tie
 
 enum-known-one : tie.Need-enum-known-one
 enum-known-one c = search needs

@@ -12,7 +12,6 @@ use Rattle.model.specs.WellFormed.{WellFormed}
 use Rattle.model.specs.Order.{nextIn}
 use Rattle.model.specs.Hanging.{hang}
 use Rattle.model.specs.Descent.{Entry, vacant, probes, findLanding, entryFor}
-use Rattle.model.specs.Commands.{Command, insertAfter, insertBefore}
 use Rattle.model.specs.Answers.{Outcome, outcome, done, outOfOrder, refused}
 use Rattle.model.specs.Operations.{withPlaced}
 use Rattle.theory.specs.Slots.{Below}
@@ -21,8 +20,8 @@ use Rattle.theory.specs.Between.{between}
 use Rattle.descent.specs.declared.types.InsertCursor.{InsertCursor}
 use Rattle.descent.specs.Entries.{sideIf, placeTold}
 use Rattle.refusals.specs.Tested.{Beside}
-use Rattle.changes.specs.declared.types.Gap.{Gap}
-use Rattle.changes.specs.Positions.{Free}
+use Rattle.placing.specs.declared.types.Gap.{Gap}
+use Rattle.placing.specs.Positions.{Free}
 
 -- ---- hang_at
 
@@ -81,11 +80,6 @@ pub record GapAt (d : Side) (m : Lent) (p : ℕ) (g : Gap) : Type 0 where
 pub record InsertPre (m : Lent) (g : Gap) (s : ℕ) : Type 0 where
   pub place : HangPre m (g .place) s
   pub beside : Beside (m .arrays .key) (g .earlier .0) (g .later .0)
-
--- the command that goes to the side d of a position: insert_after for the side rgt, insert_before for lft
-abbrev pub insertNext : Side → (position slot key : ℕ) → Command
-insertNext lft p s k = insertBefore p s k
-insertNext rgt p s k = insertAfter p s k
 
 pub record InsertedIn (m : Lent) (g : Gap) (s k : ℕ) (o : Outcome) : Type 0 where
   pub is : (v : HangPre m (g .place) s)

@@ -1,8 +1,8 @@
--- `changes::same_place` meets its contract. Assumes nothing.
+-- `placing::same_place` meets its contract. Assumes nothing.
 use borrow.Author.Needs.{needs}
-use Rattle.changes.proofs.Comparing.{places-apart, places-sides}
-use Rattle.changes.proofs.same_place.Statement.{statement}
-use Rattle.changes.proofs.same_place.Tie as tie
+use Rattle.placing.proofs.Entries.{places-apart, places-sides}
+use Rattle.placing.proofs.same_place.Statement.{statement}
+use Rattle.placing.proofs.same_place.Tie as tie
 
 returns : tie.Need-returns
 returns c = search (needs, places-apart)

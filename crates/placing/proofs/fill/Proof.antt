@@ -1,8 +1,8 @@
--- `changes::fill` meets its contract. Assumes nothing.
+-- `placing::fill` meets its contract. Assumes nothing.
 use borrow.Author.Needs.{needs}
-use Rattle.changes.proofs.Entering.{fill-hang, filled-occupied, filled-vacant}
-use Rattle.changes.proofs.fill.Statement.{statement}
-use Rattle.changes.proofs.fill.Tie as tie
+use Rattle.placing.proofs.Entries.{fill-hang, filled-occupied, filled-vacant}
+use Rattle.placing.proofs.fill.Statement.{statement}
+use Rattle.placing.proofs.fill.Tie as tie
 
 enum-known-entry : tie.Need-enum-known-entry
 enum-known-entry c = search needs
