@@ -29,7 +29,8 @@ use Rattle.placing.specs.Positions.{Stands}
 use Rattle.placing.proofs.Positions.{stands-position}
 use Rattle.changes.proofs.Calls.{answer-done}
 
-module _ {m : Lent} {p : ℕ} (well : WellFormed m) {code : Code} (test : PositionTested true (m .arrays .pc) p code) where
+module _ {m : Lent} {p : ℕ} (well : WellFormed m) {code : Code}
+    (test : PositionTested true (m .arrays .pc) p code) where
   tested : code ≡ positionTest true (some p) (m .arrays)
   tested = test .is (m .arrays) refl
 

@@ -1,5 +1,5 @@
-// The operations that change the tree, on arrays that are well formed. Each tests what it was given, in the order of the
-// codes, and does its work where nothing is refused.
+// The operations that change the tree, on arrays that are well formed. Each tests what it was given, in the order of
+// the codes, and does its work where nothing is refused.
 use descent::types::Entry;
 use links::types::Answer;
 use links::types::Code;

@@ -1,4 +1,5 @@
--- same_place and same_entry: the code's comparison of entries is the model's. fill: what its call asks for, the promise.
+-- same_place and same_entry: the code's comparison of entries is the model's. fill: what its call asks for, and its
+-- promise.
 use Prim.Native.Nat.{ℕ}
 use mathlib.Core.Bool.{Bool, true, false, Bool·beq}
 use mathlib.Core.Logic.{⊎-elim}

@@ -107,8 +107,8 @@ pub fn fill(
     }
 }
 
-// Where insert_after hangs its slot, by the right child numbers, and insert_before, by the left ones: at the position if
-// it has no such child, else on the named side of the neighbour.
+// Where insert_after hangs its slot, by the right child numbers, and insert_before, by the left ones: at the position
+// if it has no such child, else on the named side of the neighbour.
 fn beside(links: &[u32], position: Slot, neighbour: Slot, on_left: bool) -> InsertCursor
     requires { ⌜ BesidePre (now links) (position .0) ⌝ }
     ensures { λ place. ⌜ FoundBeside (now (links .entry)) (position .0) (neighbour .0) «on_left» place ⌝ }

@@ -123,7 +123,8 @@ returns-3 c =
     let k6 = k5 .before .before in
     let test-node-e = k6 .test-node .ensures in
     let pre = k6 .before .before .before .before .before .before .pre in
-    replaced-done pre test-node-e test-both-e (matched-done _ told) may-stand-e (not-false _ if1-left) replace-with-e set-key-e done-e
+    replaced-done pre test-node-e test-both-e (matched-done _ told) may-stand-e (not-false _ if1-left)
+    replace-with-e set-key-e done-e
 
 pub replace-with-spec : {M : Type 1} → statement M
 replace-with-spec =
