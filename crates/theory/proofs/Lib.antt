@@ -1,6 +1,7 @@
 -- What follows from the definitions of `model`.
 pub mod After
 pub mod Balance
+pub mod Batches
 pub mod Bounds
 pub mod Branch
 pub mod Calls
