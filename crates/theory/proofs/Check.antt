@@ -6,12 +6,11 @@ use mathlib.Core.Path.{_≡_, refl, ap}
 use borrow.Author.Tests.{eqb-true, eq-eqb, ne-eqb, leb-true, le-leb}
 use Rattle.model.specs.Limits.{depthLimit}
 use Rattle.model.specs.Tree.{black, Tree}
-use Rattle.model.specs.Lent.{Arrays, Lent, capacity, pcOf, treeOf}
+use Rattle.model.specs.Lent.{Arrays, Lent, capacity, pcOf}
 use Rattle.model.specs.WellFormed.{Lengths, W2, WellFormed}
 use Rattle.model.specs.Check.{Verdict, bad, good, blackCheck, linkedCount, reachesAll, lengthsFit, check}
 use Rattle.theory.specs.Balance.{tint, size}
 use Rattle.theory.specs.Sound.{count, Sound}
-use Rattle.theory.specs.Holds.{Holds}
 use Rattle.theory.specs.Hangs.{Hangs, Hung}
 use Rattle.theory.specs.Checked.{Read}
 use Rattle.theory.specs.Totals.{oneIf}
@@ -20,8 +19,8 @@ use Rattle.theory.proofs.Hangs.{clear-of}
 use Rattle.theory.proofs.Levels.{hangs-linked, hangs-sound}
 use Rattle.theory.proofs.Well.{hung-linked, hung-well}
 use Rattle.theory.proofs.Grown.{well-hung}
-use Rattle.theory.proofs.Hung.{hung-holds, holds-hung}
-use Rattle.theory.proofs.Holds.{holds-height, well-holds}
+use Rattle.theory.proofs.Hung.{hung-holds}
+use Rattle.theory.proofs.Holds.{holds-height}
 use Rattle.theory.proofs.Verdicts.{both-true, both-pass}
 use Rattle.theory.proofs.CheckSlots.{linked-total, tidy-w2, w2-tidy}
 use Rattle.theory.proofs.CheckReads.{check-read}
@@ -148,10 +147,3 @@ check-complete m w = hung-check (well-hung w)
 
 pub check-false : (m : Lent) → check m ≡ false → ¬ WellFormed m
 check-false m e w = let z : _≡_ {A = ℕ} 0 1 = cc (check-complete m w) in omega arith
-
--- the arrays that it accepts are those that hold a tree
-pub check-holds : (m : Lent) → check m ≡ true → Holds m (treeOf m)
-check-holds m e = well-holds m (check-sound m e)
-
-pub holds-check : {m : Lent} {t : Tree} → Holds m t → check m ≡ true
-holds-check h = hung-check (holds-hung h)

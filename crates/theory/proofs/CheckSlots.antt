@@ -2,14 +2,12 @@
 use Prim.Native.Nat.{ℕ, zero, suc, _+_, _-_, _≤_, _<_}
 use native.Mathlib.Omega.{arith}
 use native.Mathlib.Decide.{ℕ-discrete}
-use native.Mathlib.Numerals.{add-one}
 use native.Mathlib.Nat.{le-of-suc-le-suc, not-suc-le-zero}
 use mathlib.Core.Bool.{Bool, true, false}
-use mathlib.Core.List.{List, [], _∷_, _++_}
+use mathlib.Core.List.{List, [], _∷_}
 use mathlib.Core.Path.{_≡_, refl, ap, _∙_}
 use lib.Dec.{eqb}
-use lib.ListN.{getD, length, take}
-use lib.Seq.{take-suc, take-all}
+use lib.ListN.{getD, length}
 use borrow.Author.Tests.{eqb-true, eq-eqb, ne-eqb}
 use Rattle.model.specs.Branch.{choose, pick}
 use Rattle.model.specs.Lent.{Arrays, at, capacity, childOf, pcOf}
@@ -37,30 +35,6 @@ unfolding capacity pcOf
 linked-total a =
     ap linkedCount (is-listed (length (a .pc)) (a .pc) (at (a .pc)) refl (λ s low high. refl))
     ∙ count-listed (length (a .pc)) 1 (at (a .pc))
-
--- ---- the count, in a loop over the slots
-
-linked-snoc : (p : List ℕ) (v : ℕ) → linkedCount (p ++ v ∷ []) ≡ linkedCount p + oneIf v
-unfolding linkedCount
-linked-snoc [] v = go (eqb v 0)
-  where
-    go : (t : Bool) → choose t (λ _. 0) (λ _. 1) ≡ 0 + pick {A = ℕ} t 0 1
-    go true = refl
-    go false = refl
-linked-snoc (x ∷ p) v = go (eqb x 0) (linked-snoc p v)
-  where
-    go : (t : Bool) → linkedCount (p ++ v ∷ []) ≡ linkedCount p + oneIf v →
-        choose t (λ _. linkedCount (p ++ v ∷ [])) (λ _. suc (linkedCount (p ++ v ∷ [])))
-        ≡ choose t (λ _. linkedCount p) (λ _. suc (linkedCount p)) + oneIf v
-    go true e = e
-    go false e = omega arith
-
-pub linked-next : (p : List ℕ) (i : ℕ) → i < length p →
-    linkedCount (take (i + 1) p) ≡ linkedCount (take i p) + oneIf (getD p i 0)
-linked-next p i h = rw (add-one i, take-suc p i 0) (linked-snoc (take i p) (getD p i 0))
-
-pub linked-all : (p : List ℕ) (i : ℕ) → length p ≤ i → linkedCount (take i p) ≡ linkedCount p
-linked-all p i h = ap linkedCount (take-all i p h)
 
 -- no more than there are slots
 pub linked-bound : (p : List ℕ) → linkedCount p ≤ length p
@@ -117,17 +91,6 @@ each-tidy (x ∷ l) [] p each = refl
 each-tidy (x ∷ l) (y ∷ r) [] each = refl
 each-tidy (x ∷ l) (y ∷ r) (z ∷ p) each =
     rw (each 0 (omega arith)) (each-tidy l r p (λ i h. each (suc i) (omega arith)))
-
--- an unlinked slot with a child spoils it
-pub tidy-stop : (l r p : List ℕ) → length l ≡ length p → length r ≡ length p → (i : ℕ) → i < length p →
-    getD p i 0 ≡ 0 → (getD l i 0 ≡ 0 → getD r i 0 ≡ 0 → ⊥) → tidy l r p ≡ false
-tidy-stop l r p e f i h none child = go (tidy l r p) refl
-  where
-    go : (t : Bool) → tidy l r p ≡ t → t ≡ false
-    go false q = refl
-    go true q =
-        let k = tidy-slot (getD l i 0) (getD r i 0) (getD p i 0) (tidy-each l r p e f q i h) none in
-        absurd (child (k .0) (k .1))
 
 -- the look at all slots decides W2
 pub tidy-w2 : (a : Arrays) → Lengths a → tidy (a .left) (a .right) (a .pc) ≡ true → W2 a

@@ -1,21 +1,17 @@
 -- A descent over a drawing, by any comparisons, ends where the descent in the tree ends, and keeps what that one keeps.
 use Prim.Native.Nat.{ℕ, zero, suc, _≤_}
-use mathlib.Core.Path.{_≡_, refl, ap, sym, _∙_}
+use mathlib.Core.Path.{_≡_}
 use mathlib.Core.List.{List, [], _∷_}
 use native.Mathlib.Omega.{arith}
 use lib.ListN.{length-map}
-use lib.Dec.{eqb}
-use borrow.Author.Tests.{eqb-true, ne-eqb}
+use borrow.Author.Tests.{ne-eqb}
 use Rattle.model.specs.Tree.{Side, lft, rgt, Color, Tree, leaf, node, nod, Frame, frame, framed, plug}
 use Rattle.model.specs.Draw.{lay, draw}
-use Rattle.model.specs.Descent.{Step, leftward, rightward, halt, follow, landing, descend, path, probes, insertStep}
-use Rattle.model.specs.Descent.{findStep, lowerStep, upperStep, insertLanding, lowerLanding, lowerSlot, upperLanding}
-use Rattle.model.specs.Descent.{upperSlot, findLanding, entryAt, entryOf, entryFor, cursorOf, findSlot}
+use Rattle.model.specs.Descent.{Step, leftward, rightward, halt, follow, landing, descend, path, probes}
 use Rattle.theory.specs.Balance.{height}
 use Rattle.theory.specs.Sound.{Sound}
 use Rattle.theory.specs.Links.{drawn}
-use Rattle.theory.specs.Trail.{Trail, stepDown, stayHere, descendIn, trailAt, trailOf, searchIn, entryIn}
-use Rattle.theory.proofs.Branch.{by-test}
+use Rattle.theory.specs.Trail.{stepDown, stayHere, descendIn, trailAt, trailOf, searchIn}
 use Rattle.theory.proofs.Counts.{slot-low}
 use Rattle.theory.proofs.Reading.{near-drawn}
 
@@ -66,63 +62,3 @@ module _ {C : ℕ} (step : ℕ → Step) where
       → searchIn step n (drawn C t) ≡ trailOf (descend step t [])
   unfolding searchIn drawn draw lay trailAt
   search-drawn n t = descend-drawn n t []
-
--- ---- what the five descents tell
-
-follow-by : {A : Type 0} (P : A → Type 0) (s : Step) (l r h : A) → P l → P r → P h
-    → P (follow s (λ _. l) (λ _. r) (λ _. h))
-follow-by P leftward l r h i j k = i
-follow-by P rightward l r h i j k = j
-follow-by P halt l r h i j k = k
-
--- the entry is read off the trail
-entry-trail : {C : ℕ} (step : ℕ → Step) (t : Tree) (w : List Frame) → Sound C (plug t w)
-    → entryIn (trailOf (descend step t w)) ≡ entryOf (descend step t w)
-unfolding entryIn trailOf entryOf entryAt
-entry-trail step leaf w h = refl
-entry-trail step (node c l x r) w h =
-    let low = slot-low lft c l x r w h in
-    follow-by (λ e. entryIn (trailOf e) ≡ entryOf e) (step x) _ _ _
-    (entry-trail step l (frame lft c x r ∷ w) h)
-    (entry-trail step r (frame rgt c x l ∷ w) h)
-    (rw (ne-eqb x 0 (λ e. omega arith)))
-
-cursor-trail : (z : Trail) → cursorOf (entryIn z) ≡ z .here
-unfolding entryIn
-cursor-trail z = by-test (eqb (z .here) 0) (λ is. rw is (sym (eqb-true (z .here) 0 is))) (λ is. rw is)
-
-module _ {C : ℕ} (key : ℕ → ℕ) (k n : ℕ) (t : Tree) (deep : height t ≤ n) (h : Sound C t) where
-  -- insert: the parent and the side of the place, and the probes, are those of this landing
-  pub insert-search : searchIn (insertStep key k) n (drawn C t) ≡ trailOf (insertLanding key k t)
-  unfolding insertLanding
-  insert-search = search-drawn (insertStep key k) n t deep h
-
-  -- find and entry
-  pub find-search : searchIn (findStep key k) n (drawn C t) ≡ trailOf (findLanding key k t)
-  unfolding findLanding
-  find-search = search-drawn (findStep key k) n t deep h
-
-  pub entry-search : entryIn (searchIn (findStep key k) n (drawn C t)) ≡ entryFor key k t
-  unfolding entryFor findLanding
-  entry-search = rw find-search (entry-trail (findStep key k) t [] h)
-
-  pub find-here : searchIn (findStep key k) n (drawn C t) .here ≡ findSlot key k t
-  unfolding findSlot
-  find-here = sym (cursor-trail (searchIn (findStep key k) n (drawn C t))) ∙ ap cursorOf entry-search
-
-  module _ (kind : ℕ) where
-    pub lower-search : searchIn (lowerStep key kind k) n (drawn C t) ≡ trailOf (lowerLanding key kind k t)
-    unfolding lowerLanding
-    lower-search = search-drawn (lowerStep key kind k) n t deep h
-
-    pub lower-turn : searchIn (lowerStep key kind k) n (drawn C t) .left-turn ≡ lowerSlot (lowerLanding key kind k t)
-    unfolding lowerSlot trailOf
-    lower-turn = ap (λ (z : Trail). z .left-turn) lower-search
-
-    pub upper-search : searchIn (upperStep key kind k) n (drawn C t) ≡ trailOf (upperLanding key kind k t)
-    unfolding upperLanding
-    upper-search = search-drawn (upperStep key kind k) n t deep h
-
-    pub upper-turn : searchIn (upperStep key kind k) n (drawn C t) .right-turn ≡ upperSlot (upperLanding key kind k t)
-    unfolding upperSlot trailOf
-    upper-turn = ap (λ (z : Trail). z .right-turn) upper-search

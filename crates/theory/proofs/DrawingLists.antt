@@ -36,14 +36,10 @@ is-listed C l f e each =
     ∙ ap f (omega arith) ∙ sym (getD-listed C 1 f i (omega arith)))
 
 module _ (C : ℕ) (t : Tree) (keys : List ℕ) where
-  -- a drawing of C slots has C slots, and the keys that it was given
+  -- a drawing of C slots has C slots
   pub draw-capacity : capacity (draw C t keys .arrays) ≡ C
   unfolding draw lay capacity
   draw-capacity = length-listed C 1 (λ s. written 0 t (pcCell s))
-
-  pub draw-keys : draw C t keys .arrays .key ≡ keys
-  unfolding draw lay
-  draw-keys = refl
 
   -- each number of a drawing is what the tree writes there
   pub draw-number : (b : Cell) → 0 < slotOf b → slotOf b ≤ C → numberAt (draw C t keys .arrays) b ≡ written 0 t b

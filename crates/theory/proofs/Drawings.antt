@@ -2,33 +2,22 @@
 use Prim.Native.Nat.{ℕ, _≤_}
 use mathlib.Core.Path.{_≡_}
 use mathlib.Core.Logic.{_⊎_}
-use mathlib.Core.List.{List, List·Memᴰ}
-use native.Mathlib.Omega.{arith}
-use Rattle.model.specs.Tree.{Side, lft, Tree, leaf, node, slots, Frame, plug, above, sideOf}
-use Rattle.model.specs.Hanging.{hang}
+use mathlib.Core.List.{List·Memᴰ}
+use Rattle.model.specs.Tree.{Side, lft, Tree, node, slots, plug}
 use Rattle.model.specs.Removal.{removed, replaced}
 use Rattle.model.specs.Order.{nextIn}
 use Rattle.theory.specs.Balance.{Balanced}
 use Rattle.theory.specs.Sound.{count, Sound}
 use Rattle.theory.specs.Lists.{facing}
 use Rattle.theory.specs.Links.{drawn}
-use Rattle.theory.specs.Programs.{insertAt, replaceIn, removeAt, walkTo, clearAll}
+use Rattle.theory.specs.Programs.{replaceIn, removeAt, walkTo}
 use Rattle.theory.proofs.Focus.{standing, removed-at, replaced-at}
-use Rattle.theory.proofs.Balance.{balanced-topped}
 use Rattle.theory.proofs.Depth.{sound-height, sound-deep}
-use Rattle.theory.proofs.Linking.{insertAt-drawn}
 use Rattle.theory.proofs.Replacing.{replace-drawn}
 use Rattle.theory.proofs.Walking.{walk-drawn}
 use Rattle.theory.proofs.Removing.{remove-drawn}
-use Rattle.theory.proofs.Clearing.{clear-drawn}
 
 module _ {C : ℕ} where
-  -- a slot that isn't in the tree is hung at an empty place
-  pub hang-drawing : (x : ℕ) (w : List Frame) → 1 ≤ x → x ≤ C → count (plug leaf w) x ≡ 0 → Balanced (plug leaf w)
-      → Sound C (plug leaf w) → insertAt C (drawn C (plug leaf w)) (above w) (sideOf w) x ≡ drawn C (hang x w)
-  hang-drawing x w low high fresh b h =
-      insertAt-drawn C x w (omega (arith, sound-deep leaf w h)) low high (balanced-topped leaf w b) h fresh
-
   module _ (t : Tree) (h : Sound C t) where
     -- a slot of the tree is taken out
     pub remove-drawing : (x : ℕ) → List·Memᴰ x (slots t) → Balanced t → removeAt C (drawn C t) x ≡ drawn C (removed x t)
@@ -53,6 +42,3 @@ module _ {C : ℕ} where
     pub walk-drawing : (d : Side) (p : ℕ) → (p ≡ 0) ⊎ List·Memᴰ p (slots t)
         → walkTo d C (drawn C t) p ≡ nextIn p (facing d (slots t))
     walk-drawing d p at = walk-drawn d C t p (sound-height t h) at h
-
-    pub clear-drawing : clearAll C (drawn C t) ≡ drawn C leaf
-    clear-drawing = clear-drawn C t (sound-height t h) h

@@ -1,4 +1,5 @@
--- Empty arrays are well formed and hold no slot.
+-- Where the commands of demand 3 start: empty arrays have as many slots as asked for, hold no slot, are well formed, and
+-- the check accepts them.
 use Prim.Native.Nat.{ℕ, _-_, _≤_, _<_}
 use native.Mathlib.Omega.{arith}
 use mathlib.Core.Bool.{true}

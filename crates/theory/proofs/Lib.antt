@@ -28,6 +28,7 @@ pub mod DrawingLists
 pub mod DrawingTrees
 pub mod Drawings
 pub mod Empty
+pub mod Ends
 pub mod Exchanges
 pub mod Finds
 pub mod Focus

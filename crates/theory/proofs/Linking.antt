@@ -4,8 +4,7 @@ use mathlib.Core.Path.{_≡_, refl, ap, fun-ext}
 use mathlib.Core.List.{List, [], _∷_}
 use native.Mathlib.Omega.{arith}
 use lib.ListN.{length}
-use borrow.Author.Tests.{ne-eqb}
-use Rattle.model.specs.Tree.{Side, lft, rgt, Color, red, Tree, leaf, node, Frame, frame, plug, above, sideOf}
+use Rattle.model.specs.Tree.{Side, lft, rgt, Color, red, Tree, leaf, node, Frame, frame, plug}
 use Rattle.model.specs.Lent.{parentColor}
 use Rattle.model.specs.Draw.{Cell, childCell, pcCell, only, written, draw}
 use Rattle.model.specs.Hanging.{hang}
@@ -13,7 +12,7 @@ use Rattle.theory.specs.Cells.{slotOf}
 use Rattle.theory.specs.Sound.{one, count, Sound}
 use Rattle.theory.specs.Balance.{Topped}
 use Rattle.theory.specs.Links.{laid, drawn}
-use Rattle.theory.specs.Programs.{store, hangIn, plantIn, postInsert, insertAt}
+use Rattle.theory.specs.Programs.{store, hangIn, plantIn, postInsert}
 use Rattle.theory.proofs.Counts.{count-plug, sound-more, slot-low}
 use Rattle.theory.proofs.DrawingCells.{only-none, written-none}
 use Rattle.theory.proofs.Cells.{only-zero, only-far, only-pc, only-child, update, update-bal, rootUp}
@@ -137,13 +136,3 @@ module _ {C : ℕ} (d : Side) (c : Color) (p : ℕ) (u : Tree) (w : List Frame) 
   unfolding hang
   insert-drawn n le high topped =
       rw hang-drawn (climb-drawn n (node red leaf x leaf) place le low topped (hung-sound high))
-
--- at any empty place, which is named by its parent and side
-pub insertAt-drawn : {C : ℕ} (n x : ℕ) (w : List Frame) → length w ≤ n → 1 ≤ x → x ≤ C → Topped w
-    → Sound C (plug leaf w) → count (plug leaf w) x ≡ 0
-    → insertAt n (drawn C (plug leaf w)) (above w) (sideOf w) x ≡ drawn C (hang x w)
-unfolding insertAt
-insertAt-drawn {C} n x [] le low high topped h fresh = plant-drawn C x low
-insertAt-drawn n x (frame d c p u ∷ w) le low high topped h fresh =
-    let z = slot-low d c leaf p u w h in
-    rw (ne-eqb p 0 (λ e. omega arith)) (insert-drawn d c p u w x low h fresh n le high topped)

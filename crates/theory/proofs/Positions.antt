@@ -36,11 +36,6 @@ next-at lft c near x far w sound =
     (λ m. sound-alone c near x far w sound .1 (member-reverse x (slots far ++ after w) m))
     ∙ rw (reverse-append (before w) (slots near)))
 
--- prev is the step to the left
-pub prev-facing : (p : ℕ) (L : List ℕ) → prevIn p L ≡ nextIn p (facing lft L)
-unfolding prevIn
-prev-facing p L = refl
-
 -- ---- the place at an end of a tree
 
 -- it is empty

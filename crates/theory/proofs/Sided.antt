@@ -34,11 +34,6 @@ unfolding childIn
 sided-far lft near far pc root s = refl
 sided-far rgt near far pc root s = refl
 
-pub sided-pc : (d : Side) (near far pc : List ℕ) (root : ℕ) (s : ℕ) → pcIn (sided d near far pc root) s ≡ at pc s
-unfolding pcIn
-sided-pc lft near far pc root s = refl
-sided-pc rgt near far pc root s = refl
-
 pub sided-parent : (d : Side) (near far pc : List ℕ) (root : ℕ) (s : ℕ)
     → parentIn (sided d near far pc root) s ≡ parentAt pc s
 unfolding pcIn parentAt

@@ -9,7 +9,7 @@ use lib.Dec.{eqb}
 use lib.Seq.{getD-set-same, getD-set-other}
 use borrow.Author.Tests.{eqb-true, eqb-false}
 use Rattle.model.specs.Lent.{at}
-use Rattle.theory.specs.Slots.{put, parentAt, colorAt, putParent, putColor, Below, Parents}
+use Rattle.theory.specs.Slots.{put, parentAt, putColor, Below, Parents}
 use Rattle.theory.proofs.Branch.{by-test}
 
 -- the length, and the entries
@@ -42,15 +42,6 @@ pub parents-put : (l : List ℕ) (s v : ℕ) → Parents l → 0 < s → s ≤ l
 unfolding parentAt
 parents-put l s v b low high le =
     record { each = λ t. rw (length-put l s v) (put-by (λ x. x / 2 ≤ length l) l s v low high le (b .each) t) }
-
-pub parents-putParent : (l : List ℕ) (s v : ℕ) → Parents l → 0 < s → s ≤ length l → v ≤ length l
-    → Parents (putParent l s v)
-unfolding putParent colorAt
-parents-putParent l s v b low high le = parents-put l s _ b low high (omega arith)
-
-pub parents-putColor : (l : List ℕ) (s v : ℕ) → Parents l → 0 < s → s ≤ length l → v ≤ 1 → Parents (putColor l s v)
-unfolding putColor
-parents-putColor l s v b low high le = parents-put l s _ b low high (omega (arith, b .each s))
 
 -- a stored colour keeps every parent
 pub parent-putColor : (pc : List ℕ) (s v t : ℕ) → 0 < s → s ≤ length pc → v ≤ 1

@@ -14,6 +14,7 @@ pub mod Orders
 pub mod Places
 pub mod Programs
 pub mod Quick
+pub mod Records
 pub mod Rounds
 pub mod Sided
 pub mod Slots

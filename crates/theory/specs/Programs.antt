@@ -77,10 +77,6 @@ postInsert (suc n) k x =
     let climbs = pick (redIn k u) (postInsert n (recolor k p g u) g) (finish d k x p) in
     pick (eqb p 0) k (pick (eqb (colorIn k p) 0) climbs k)
 
--- x is inserted under the parent on the side d, or as the first node where the parent is 0
-unfoldable pub insertAt : (n : ℕ) → Links → (parent : ℕ) → Side → (x : ℕ) → Links
-insertAt n k p d x = pick (eqb p 0) (plantIn k x) (postInsert n (hangIn d k p x) x)
-
 -- ---- replace_with
 
 -- the child n of y, its only one, or 0, takes y's place, and y becomes unlinked

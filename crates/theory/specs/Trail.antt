@@ -5,7 +5,7 @@ use lib.Dec.{eqb}
 use lib.ListN.{length}
 use Rattle.model.specs.Branch.{pick}
 use Rattle.model.specs.Tree.{Side, lft, rgt, Tree, topOf, Frame, above, sideOf}
-use Rattle.model.specs.Descent.{Step, follow, lastTurn, Landing, probes, Entry, occupied, vacant}
+use Rattle.model.specs.Descent.{Step, follow, lastTurn, Landing, probes}
 use Rattle.theory.specs.Links.{Links, childIn}
 
 -- the slot where it stands, or 0; that place's parent and side; the last nodes at which it turned left and right; and
@@ -91,7 +91,3 @@ searchIn step n k = descendIn step n k (record {
   right-turn = 0;
   looks = 0;
 })
-
--- what a search for an equal key tells
-unfoldable pub entryIn : Trail → Entry
-entryIn z = pick (eqb (z .here) 0) (vacant (z .parent) (z .side)) (occupied (z .here))
