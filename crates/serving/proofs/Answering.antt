@@ -38,7 +38,7 @@ laid-front at size {values} {before} lays long inside =
     (length-append (take at before) values ∙ omega (arith, length-take-le at before inside))
 
 -- what is left of the input is empty, or is answered as a bad record
-tail-none : (input : List ℕ) → length input % recordSize ≡ 0 → tailAnswer input ≡ []
+pub tail-none : (input : List ℕ) → length input % recordSize ≡ 0 → tailAnswer input ≡ []
 unfolding tailAnswer
 tail-none input e = rw (eq-eqb _ _ e)
 

@@ -1,7 +1,7 @@
 -- What is answered to the bytes of one read.
 use Prim.Native.Nat.{ℕ, _*_, _/_, _≤_}
 use mathlib.Core.Path.{_≡_}
-use mathlib.Core.List.{List, _++_}
+use mathlib.Core.List.{List, [], _∷_, _++_}
 use lib.ListN.{length, take}
 use Rattle.model.specs.Limits.{recordSize, answerSize, batchLimit}
 use Rattle.model.specs.Lent.{Lent}
@@ -25,3 +25,21 @@ pub record Responded (input buffer buffer' : List ℕ) (m m' : Lent) (size : ℕ
   pub bytes : take size buffer' ≡ answered (wholeBatch input buffer m) ++ tailAnswer input
   pub after : m' ≡ wholeBatch input buffer m .after
   pub top : size ≤ length buffer'
+
+-- ---- the input in pieces, as the program reads it
+
+-- the answers to pieces one after another, each in a buffer of its own
+abbrev pub replies : (buffer : List ℕ) → (pieces : List (List ℕ)) → Lent → List ℕ
+replies buffer [] m = []
+replies buffer (p ∷ ps) m =
+    (answered (wholeBatch p buffer m) ++ tailAnswer p) ++ replies buffer ps (wholeBatch p buffer m .after)
+
+-- pieces and a last one, joined
+abbrev pub joined : (pieces : List (List ℕ)) → (last : List ℕ) → List ℕ
+joined [] last = last
+joined (p ∷ ps) last = p ++ joined ps last
+
+-- each piece fills a batch
+abbrev pub Full : (pieces : List (List ℕ)) → Type 0
+Full [] = Unit {0}
+Full (p ∷ ps) = (length p ≡ batchLimit) × Full ps
