@@ -73,7 +73,7 @@ fn key_of_part(part: &[u8]) -> Coded
 }
 
 // How many spaces the line begins with.
-fn start_of(line: &[u8]) -> usize
+pub fn start_of(line: &[u8]) -> usize
     ensures { λ r. ⌜ Start (now (line .entry)) r ⌝ }
 {
     let mut a: usize = 0;

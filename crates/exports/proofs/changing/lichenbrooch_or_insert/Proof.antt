@@ -1,0 +1,42 @@
+-- `exports::changing::lichenbrooch_or_insert` meets its contract. Assumes nothing.
+use borrow.Author.Needs.{needs}
+use Rattle.exports.proofs.Telling.{entered-told}
+use Rattle.exports.proofs.changing.lichenbrooch_or_insert.Statement.{statement}
+use Rattle.exports.proofs.changing.lichenbrooch_or_insert.Tie as tie
+
+entry-of-requires : tie.Need-entry-of-requires
+entry-of-requires c κs = search needs
+
+or-insert-requires : tie.Need-or-insert-requires
+or-insert-requires c κs = search needs
+
+reply-requires : tie.Need-reply-requires
+reply-requires c κs = search needs
+
+same-length : tie.Need-same-length
+same-length c = search needs
+
+same-length-2 : tie.Need-same-length-2
+same-length-2 c = search needs
+
+same-length-3 : tie.Need-same-length-3
+same-length-3 c = search needs
+
+same-length-4 : tie.Need-same-length-4
+same-length-4 c = search needs
+
+returns : tie.Need-returns
+returns c = search (needs, entered-told)
+
+pub lichenbrooch-or-insert-spec : {M : Type 1} → statement M
+lichenbrooch-or-insert-spec =
+    tie.close
+    (tie.spec
+    entry-of-requires
+    or-insert-requires
+    reply-requires
+    same-length
+    same-length-2
+    same-length-3
+    same-length-4
+    returns)

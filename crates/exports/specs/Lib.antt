@@ -1,0 +1,3 @@
+-- What the numbers at the boundary mean.
+pub mod Told
+pub mod Places
