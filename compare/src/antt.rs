@@ -89,6 +89,7 @@ fn answer(answer: &Answer) -> String {
 
 pub fn trial(trial: &Trial) -> String {
     match trial {
+        Trial::Check(m) => format!("tested {}", lent(m)),
         Trial::Call { command: c, before } => format!("call {} {}", command(c), lent(before)),
         Trial::Meant { command: c, before } => format!("meant {} {}", command(c), lent(before)),
         Trial::Move { side: at, cursor, lent: m } => format!("move {} {cursor} {}", side(*at), lent(m)),
@@ -107,6 +108,7 @@ pub fn trial(trial: &Trial) -> String {
 
 pub fn said(said: &Said) -> String {
     match said {
+        Said::Holds(holds) => format!("ofCheck {holds}"),
         Said::Outcome(o) => {
             let Answer { code: c, probes, slot } = o.answer;
             format!("ofCall (outcome {} {probes} {slot} {})", code(c), lent(&o.after))

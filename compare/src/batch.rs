@@ -34,7 +34,7 @@ pub fn batch(input: &[u8], buffer: &[u8], before: &Lent) -> BatchOutcome {
 
 /// Every reason to refuse the whole batch, in their order.
 pub fn refusals(input: &[u8], buffer: &[u8], before: &Lent) -> Vec<Code> {
-    let length = input.len() % RECORD != 0 || input.len() > 16_384;
+    let length = !input.chunks_exact(RECORD).remainder().is_empty() || input.len() > 16_384;
     let short = buffer.len() < ANSWER * (input.len() / RECORD);
     let reasons = [(length, Code::BadLength), (short, Code::Short), (!wellformed::holds(before), Code::Damaged)];
     reasons.into_iter().filter(|(given, _)| *given).map(|(_, code)| code).collect()
@@ -59,7 +59,7 @@ pub fn program(input: &[u8]) -> Vec<u8> {
 /// The command of a record; none if its mark or its operation is wrong.
 pub fn command(record: &[u8]) -> Option<Command> {
     let two = |at: usize| u32::from(u16::from_le_bytes([record[at], record[at + 1]]));
-    let operation = OPERATIONS.into_iter().find(|&o| o as u8 == record[2])?;
+    let operation = *OPERATIONS.get(usize::from(record[2]).checked_sub(1)?)?;
     let key = u64::from_le_bytes(record[8..].try_into().expect("eight bytes"));
     let marked = record[..2] == [0x43, 0x4E];
     marked.then(|| Command { operation, kind: record[3].into(), position: two(4), slot: two(6), key })
@@ -75,7 +75,7 @@ pub fn record(command: &Command) -> [u8; RECORD] {
     bytes
 }
 
-fn answer(answer: &Answer) -> [u8; ANSWER] {
+pub fn answer(answer: &Answer) -> [u8; ANSWER] {
     let slot = (answer.slot as u16).to_le_bytes();
     [0x41, 0x4E, answer.code as u8, answer.probes as u8, slot[0], slot[1]]
 }

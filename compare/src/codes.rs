@@ -3,6 +3,7 @@
 use crate::lent::Code;
 
 /// The code, the key, and the part of the line that is handed on.
+#[derive(Clone, Debug, PartialEq, Eq)]
 pub struct Reading {
     pub code: Code,
     pub key: u64,

@@ -11,12 +11,18 @@ use crate::trials::{Said, Trial};
 use crate::wellformed;
 
 /// How often each kind of case has been met.
-#[derive(Default)]
+#[derive(Clone, Default)]
 pub struct Kinds(BTreeMap<String, usize>);
 
 impl Kinds {
     pub fn len(&self) -> usize {
         self.0.len()
+    }
+
+    /// The cases of hanging and removal among them.
+    pub fn repairs(&self) -> Vec<&str> {
+        let parts = ["hang ", "remove ", "repair "];
+        self.0.keys().map(String::as_str).filter(|kind| parts.iter().any(|part| kind.starts_with(part))).collect()
     }
 
     /// Adds what a trial meets, and tells whether one kind of it was met fewer than `wanted` times before.
@@ -33,6 +39,7 @@ impl Kinds {
 
 fn kinds(trial: &Trial, said: &Said) -> Vec<String> {
     match (trial, said) {
+        (Trial::Check(lent), _) => vec![format!("check: {}", broken_rules(lent))],
         (Trial::Call { command, before }, Said::Outcome(outcome)) => of_call(command, before, outcome),
         (Trial::Meant { command, before }, _) => match command.operation {
             Operation::Remove => vec![format!("meant {}", of_splice(before, command.position))],
@@ -114,11 +121,8 @@ fn of_or_insert(entry: Entry, slot: u32, key: u64, before: &Lent) -> Vec<String>
 fn of_call(command: &Command, before: &Lent, outcome: &Outcome) -> Vec<String> {
     let Answer { code, slot, .. } = outcome.answer;
     let operation = command.operation;
-    let broken = wellformed::broken(before);
-    if !broken.is_empty() {
-        let rules = if broken.len() <= 2 { broken.join(", ") } else { format!("{}, ..", broken[0]) };
-        let falls = if rules == "W4" { fall(before) } else { "" };
-        return vec![format!("{operation:?} damaged"), format!("broken: {rules}{falls}")];
+    if code == Code::Damaged {
+        return vec![format!("{operation:?} damaged"), format!("broken: {}", broken_rules(before))];
     }
     let mut kinds = vec![format!("{operation:?} {:?}{}", rules::refusals(command, before), at_null(command))];
     if code != Code::Done {
@@ -133,6 +137,14 @@ fn of_call(command: &Command, before: &Lent, outcome: &Outcome) -> Vec<String> {
         _ => {}
     }
     kinds
+}
+
+/// The rules that the lent numbers break, by name.
+fn broken_rules(lent: &Lent) -> String {
+    let broken = wellformed::broken(lent);
+    let rules = if broken.len() <= 2 { broken.join(", ") } else { format!("{}, ..", broken[0]) };
+    let falls = if rules == "W4" { fall(lent) } else { "" };
+    format!("{rules}{falls}")
 }
 
 /// How the first two keys that fall lie in the tree.

@@ -2,7 +2,7 @@
 //! "When the index says no", "Operations".
 
 /// Four lent arrays and the root. Slot k is element k - 1; 0 is none.
-#[derive(Clone, Debug, PartialEq, Eq)]
+#[derive(Clone, Debug, Default, Hash, PartialEq, Eq)]
 pub struct Lent {
     pub left: Vec<u32>,
     pub right: Vec<u32>,
@@ -57,7 +57,7 @@ impl Lent {
     }
 
     pub fn is_red(&self, slot: u32) -> bool {
-        self.pc[slot as usize - 1] % 2 == 0
+        self.pc[slot as usize - 1] & 1 == 0
     }
 
     /// The in-order list of slots, on arrays whose child numbers form a tree.
@@ -125,6 +125,8 @@ pub struct Command {
     pub key: u64,
 }
 
+/// The codes under 01's names.
+#[allow(clippy::enum_variant_names)]
 #[derive(Clone, Copy, Debug, PartialEq, Eq)]
 pub enum Code {
     Done,

@@ -86,6 +86,7 @@ fn spoil(vectors: &mut [(Trial, Said)]) -> usize {
 
 fn make_wrong(said: &mut Said) {
     match said {
+        Said::Holds(holds) => *holds = !*holds,
         Said::Outcome(outcome) => outcome.answer.slot += 1,
         Said::Meant { list, .. } => list.push(1),
         Said::Moved { cursor, .. } => *cursor += 1,

@@ -8,25 +8,31 @@ use intrusive_collections::{intrusive_adapter, Bound, KeyAdapter, RBTreeLink, Un
 
 use crate::lent::{Command, Lent, Operation};
 
-struct Node {
-    link: RBTreeLink,
-    key: Cell<u64>,
+pub struct Node {
+    pub link: RBTreeLink,
+    pub key: Cell<u64>,
 }
 
-intrusive_adapter!(NodeAdapter = UnsafeRef<Node>: Node { link => RBTreeLink });
+intrusive_adapter!(pub NodeAdapter = UnsafeRef<Node>: Node { link => RBTreeLink });
 
 impl<'a> KeyAdapter<'a> for NodeAdapter {
     type Key = u64;
 
     fn get_key(&self, node: &'a Node) -> u64 {
+        READ.set(READ.get() + 1);
         node.key.get()
     }
+}
+
+thread_local! {
+    /// How many keys the crate has read.
+    static READ: Cell<u32> = const { Cell::new(0) };
 }
 
 /// The tree stands before its nodes, so that it is dropped first: dropping it releases them.
 pub struct Oracle {
     tree: RBTree<NodeAdapter>,
-    nodes: Box<[Node]>,
+    pub nodes: Box<[Node]>,
 }
 
 impl Oracle {
@@ -68,6 +74,15 @@ impl Oracle {
         }
         lent.root = self.root();
         lent
+    }
+
+    /// Runs an accepted command, and gives the slot that it answers and the nodes whose keys the crate compared: a
+    /// descent to an unbounded end compares none, and insert reads its own key too, if it compares it with any.
+    pub fn run_counted(&mut self, command: &Command) -> (u32, u32) {
+        READ.set(0);
+        let slot = self.run(command);
+        let own = u32::from(command.operation == Operation::Insert);
+        (slot, READ.get().saturating_sub(own))
     }
 
     /// Runs an accepted command and gives the slot that it answers.
@@ -152,11 +167,11 @@ impl Oracle {
     fn slot_of(&self, link: Option<NonNull<RBTreeLink>>) -> u32 {
         let Some(link) = link else { return 0 };
         let slot = (link.as_ptr() as usize - self.nodes.as_ptr() as usize) / size_of::<Node>() + 1;
-        assert_eq!(self.link(slot as u32), Some(link), "a link of no slot");
+        debug_assert_eq!(self.link(slot as u32), Some(link), "a link of no slot");
         slot as u32
     }
 
-    fn cursor(&self, position: u32) -> Cursor<'_, NodeAdapter> {
+    pub fn cursor(&self, position: u32) -> Cursor<'_, NodeAdapter> {
         match position {
             0 => self.tree.cursor(),
             slot => unsafe { self.tree.cursor_from_ptr(&self.nodes[slot as usize - 1]) },

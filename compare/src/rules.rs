@@ -1,5 +1,6 @@
 //! The rules of 01 for single calls, written from its text: refusals in their order, probes, keys, the list meaning.
-//! What an accepted command makes of links and colours comes from the crate, and is held against the list meaning.
+//! What an accepted command makes of links and colours comes from the crate, and is held against the list meaning; the
+//! probes are held against the comparisons that the crate makes.
 
 use crate::lent::{Answer, Code, Command, Entry, Lent, Operation, Outcome, Side};
 use crate::oracle::Oracle;
@@ -18,7 +19,15 @@ pub fn perform(command: &Command, before: &Lent) -> Outcome {
 pub fn operate(command: &Command, before: &Lent) -> Outcome {
     match refusals(command, before).first() {
         Some(&code) => refused(code, before),
-        None => accept(command, before),
+        None => accept(command, before, &mut Oracle::load(before)),
+    }
+}
+
+/// The same where the crate's tree, which holds just these numbers, lives on.
+pub fn operate_on(tree: &mut Oracle, command: &Command, before: &Lent) -> Outcome {
+    match refusals(command, before).first() {
+        Some(&code) => refused(code, before),
+        None => accept(command, before, tree),
     }
 }
 
@@ -39,7 +48,7 @@ pub fn or_insert(entry: Entry, slot: u32, key: u64, before: &Lent) -> Outcome {
     }
     match entry_refusals(entry, slot, key, before).first() {
         Some(&code) => refused(code, before),
-        None => accept(&command, before),
+        None => accept(&command, before, &mut Oracle::load(before)),
     }
 }
 
@@ -144,16 +153,18 @@ fn entry_now(key: u64, lent: &Lent) -> Entry {
 
 // ---- accepted commands
 
-fn accept(command: &Command, before: &Lent) -> Outcome {
-    let mut oracle = Oracle::load(before);
-    let slot = oracle.run(command);
-    let after = oracle.read();
+fn accept(command: &Command, before: &Lent, tree: &mut Oracle) -> Outcome {
+    let (slot, compared) = tree.run_counted(command);
+    let after = tree.read();
     let (answer, list) = meaning(command, before);
     let told = format!("01 and the crate differ on {command:?} at {before:?}");
     assert_eq!((slot, after.order()), (answer, list), "{told}");
     assert_eq!(after.key, keys_after(command, before, &after), "{told}");
     assert!(wellformed::holds(&after), "{told}");
-    Outcome { answer: Answer { code: Code::Done, probes: probes(command, before), slot }, after }
+    let probes = probes(command, before);
+    let unbounded = command.operation.has_kind() && command.kind == 0;
+    assert_eq!(compared, if unbounded { 0 } else { probes }, "{told}");
+    Outcome { answer: Answer { code: Code::Done, probes, slot }, after }
 }
 
 /// The answered slot and the in-order list afterwards, by "Operations".

@@ -15,7 +15,7 @@ type Maker = fn(&mut Random) -> Vec<Trial>;
 pub fn trials(count: usize, seed: u64) -> Vec<Trial> {
     let random = &mut Random::new(seed);
     let makers: [(usize, Maker); 9] =
-        [(5, script), (1, tall), (3, damaged), (1, meant), (1, moved), (2, entries), (1, end), (1, line), (1, batched)];
+        [(5, script), (1, tall), (4, damaged), (1, meant), (1, moved), (2, entries), (1, end), (1, line), (1, batched)];
     let mut made = small_trees(count / 5, random);
     for (share, maker) in makers {
         let mut part = Vec::new();
@@ -95,7 +95,7 @@ fn script(random: &mut Random) -> Vec<Trial> {
 }
 
 /// A command that is accepted more often than not.
-fn command(lent: &Lent, random: &mut Random) -> Command {
+pub fn command(lent: &Lent, random: &mut Random) -> Command {
     let operation =
         if random.once_in(3) { random.pick(&[Operation::Insert, Operation::Remove]) } else { random.pick(&OPERATIONS) };
     let operation = if operation == Operation::Clear && !random.once_in(4) { Operation::OrInsert } else { operation };
@@ -105,7 +105,7 @@ fn command(lent: &Lent, random: &mut Random) -> Command {
 }
 
 /// One of the slots that are wanted, or 0.
-fn any_slot(wanted: impl Fn(u32) -> bool, lent: &Lent, random: &mut Random) -> u32 {
+pub fn any_slot(wanted: impl Fn(u32) -> bool, lent: &Lent, random: &mut Random) -> u32 {
     let fitting: Vec<u32> = lent.slots().filter(|&slot| wanted(slot)).collect();
     if fitting.is_empty() {
         0
@@ -121,7 +121,7 @@ fn odd_slot(lent: &Lent, random: &mut Random) -> u32 {
     random.pick(&[0, capacity, capacity + 1, 256 + low_byte, 256 + low_byte, u32::MAX])
 }
 
-fn position(lent: &Lent, random: &mut Random) -> u32 {
+pub fn position(lent: &Lent, random: &mut Random) -> u32 {
     match random.below(12) {
         0 => 0,
         1 => odd_slot(lent, random),
@@ -130,7 +130,7 @@ fn position(lent: &Lent, random: &mut Random) -> u32 {
     }
 }
 
-fn slot(lent: &Lent, random: &mut Random) -> u32 {
+pub fn slot(lent: &Lent, random: &mut Random) -> u32 {
     match random.below(12) {
         0 => odd_slot(lent, random),
         1 => any_slot(|slot| lent.is_linked(slot), lent, random),
@@ -139,7 +139,7 @@ fn slot(lent: &Lent, random: &mut Random) -> u32 {
 }
 
 /// A key near those of the tree, often that of the position.
-fn key(lent: &Lent, position: u32, random: &mut Random) -> u64 {
+pub fn key(lent: &Lent, position: u32, random: &mut Random) -> u64 {
     let key_of = |slot: u32| lent.key.get((slot as usize).wrapping_sub(1)).copied().unwrap_or(0);
     let near = any_slot(|slot| lent.is_linked(slot), lent, random);
     match random.below(8) {
@@ -163,7 +163,7 @@ fn mostly_fit(random: &mut Random) -> Lent {
 
 fn damaged(random: &mut Random) -> Vec<Trial> {
     let before = damage::arrays(start(random), random);
-    vec![Trial::Call { command: command(&before, random), before }]
+    vec![Trial::Check(before.clone()), Trial::Call { command: command(&before, random), before }]
 }
 
 /// What is said of a call, if it is accepted.
@@ -180,7 +180,7 @@ fn moved(random: &mut Random) -> Vec<Trial> {
     vec![Trial::Move { side: side(random), cursor: position(&lent, random), lent }]
 }
 
-fn side(random: &mut Random) -> Side {
+pub fn side(random: &mut Random) -> Side {
     random.pick(&[Side::Left, Side::Right])
 }
 
@@ -222,7 +222,7 @@ fn end(random: &mut Random) -> Vec<Trial> {
 }
 
 /// A line of about the right length, with spaces round it and sometimes a byte that no code has.
-fn line(random: &mut Random) -> Vec<Trial> {
+pub fn line(random: &mut Random) -> Vec<Trial> {
     let good: Vec<u8> = (b'0'..=b'9').chain(b'A'..=b'Z').chain(b'a'..=b'z').collect();
     let length = random.pick(&[0, 1, 2, 5, 8, 11, 12, 12, 13]);
     let mut part: Vec<u8> = (0..length).map(|_| random.pick(&good)).collect();
@@ -235,7 +235,7 @@ fn line(random: &mut Random) -> Vec<Trial> {
 }
 
 /// The records of a script, some of them spoilt.
-fn records(count: usize, lent: &Lent, random: &mut Random) -> Vec<u8> {
+pub fn records(count: usize, lent: &Lent, random: &mut Random) -> Vec<u8> {
     let mut now = lent.clone();
     let mut input = Vec::new();
     for _ in 0..count {
@@ -252,7 +252,7 @@ fn records(count: usize, lent: &Lent, random: &mut Random) -> Vec<u8> {
 }
 
 /// A batch; its length, its buffer or its arrays are sometimes wrong.
-fn batched(random: &mut Random) -> Vec<Trial> {
+pub fn batched(random: &mut Random) -> Vec<Trial> {
     let before = mostly_fit(random);
     let count = random.below(9);
     let mut input = records(count, &before, random);

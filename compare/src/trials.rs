@@ -1,15 +1,19 @@
-//! What is tried on the model, and what 01 and the crate say to it.
+//! What is tried on the model and on the compiled library, and what 01 and the crate say to it.
 
 use crate::batch::{self, BatchOutcome};
 use crate::codes::{self, Reading};
 use crate::halfway;
 use crate::lent::{Answer, Code, Command, Entry, Lent, Operation, Outcome, Side};
 use crate::rules;
+use crate::wellformed;
 
 /// A link record: left, right, parent_color.
 pub type Link = (u32, u32, u32);
 
+#[derive(Clone, Debug)]
 pub enum Trial {
+    /// whether the numbers are well formed
+    Check(Lent),
     /// a single call
     Call {
         command: Command,
@@ -51,7 +55,9 @@ pub enum Trial {
     Program(Vec<u8>),
 }
 
+#[derive(Clone, Debug, PartialEq, Eq)]
 pub enum Said {
+    Holds(bool),
     Outcome(Outcome),
     Meant { list: Vec<u32>, keys: Vec<u64>, halfway: Lent },
     Moved { answer: Answer, cursor: u32 },
@@ -64,6 +70,7 @@ pub enum Said {
 
 pub fn said(trial: &Trial) -> Said {
     match trial {
+        Trial::Check(lent) => Said::Holds(wellformed::holds(lent)),
         Trial::Call { command, before } => Said::Outcome(rules::perform(command, before)),
         Trial::Meant { command, before } => {
             let after = rules::perform(command, before).after;
