@@ -18,9 +18,9 @@ use Rattle.wellformed.proofs.+black_check+red_check.Lts-black_check as 
 use Rattle.wellformed.proofs.red_check.Reads as red-check
 use Rattle.wellformed.proofs.red_check.Kinds as red-check-kinds
 use Rattle.wellformed.proofs.+black_check+red_check.Lts-red_check as red-lts
-use Rattle.wellformed.proofs.kin_of.Reads as kin-of-reads
+use Rattle.wellformed.proofs.slots.kin_of.Reads as kin-of-reads
 use Rattle.wellformed.proofs.last_check.Reads as last-check-reads
-use Rattle.wellformed.proofs.node_at.Reads as node-at-reads
+use Rattle.wellformed.proofs.slots.node_at.Reads as node-at-reads
 use Rattle.wellformed.proofs.sum_of.Reads as sum-of-reads
 use Rattle.wellformed.proofs.+black_check+red_check.{statement}
 use Rattle.wellformed.proofs.+black_check+red_check.Tie.{close}

@@ -1,8 +1,8 @@
--- `wellformed::differ` meets its contract. Assumes nothing.
+-- `wellformed::slots::differ` meets its contract. Assumes nothing.
 use borrow.Author.Tests.{eq-eqb, ne-eqb}
 use Rattle.model.specs.Check.{differ}
-use Rattle.wellformed.proofs.differ.Statement.{statement}
-use Rattle.wellformed.proofs.differ.Tie as tie
+use Rattle.wellformed.proofs.slots.differ.Statement.{statement}
+use Rattle.wellformed.proofs.slots.differ.Tie as tie
 
 returns : tie.Need-returns
 unfolding differ

@@ -1,8 +1,8 @@
--- `wellformed::node_at` meets its contract. Assumes nothing.
+-- `wellformed::slots::node_at` meets its contract. Assumes nothing.
 use borrow.Author.Needs.{needs}
 use Rattle.wellformed.proofs.Nodes.{node-good}
-use Rattle.wellformed.proofs.node_at.Statement.{statement}
-use Rattle.wellformed.proofs.node_at.Tie as tie
+use Rattle.wellformed.proofs.slots.node_at.Statement.{statement}
+use Rattle.wellformed.proofs.slots.node_at.Tie as tie
 
 number-at-requires : tie.Need-number-at-requires
 number-at-requires c κs = search needs

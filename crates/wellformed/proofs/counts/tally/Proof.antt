@@ -1,10 +1,10 @@
--- `wellformed::tally` meets its contract. Assumes nothing.
+-- `wellformed::counts::tally` meets its contract. Assumes nothing.
 use Prim.Native.Nat.{_-_}
 use lib.ListN.{length}
 use borrow.Author.Needs.{needs}
 use Rattle.wellformed.proofs.Tallies.{Tallying, tally-start, tally-step, tally-linked, tally-strays}
-use Rattle.wellformed.proofs.tally.Statement.{statement}
-use Rattle.wellformed.proofs.tally.Tie as tie
+use Rattle.wellformed.proofs.counts.tally.Statement.{statement}
+use Rattle.wellformed.proofs.counts.tally.Tie as tie
 
 abbrev Inv-loop : tie.InvT-loop
 Inv-loop left right pc linked₀ strays₀ i₀ linked strays i = Tallying left right pc linked strays i

@@ -1,8 +1,8 @@
--- `wellformed::kin_of` meets its contract. Assumes nothing.
+-- `wellformed::slots::kin_of` meets its contract. Assumes nothing.
 use borrow.Author.Needs.{needs}
 use Rattle.wellformed.proofs.Kins.{kin-none, kin-past, kin-red, kin-black, kin-other}
-use Rattle.wellformed.proofs.kin_of.Statement.{statement}
-use Rattle.wellformed.proofs.kin_of.Tie as tie
+use Rattle.wellformed.proofs.slots.kin_of.Statement.{statement}
+use Rattle.wellformed.proofs.slots.kin_of.Tie as tie
 
 returns : tie.Need-returns
 returns c = search (needs, kin-none)

@@ -1,8 +1,8 @@
--- `wellformed::blacks_down` meets its contract. Assumes nothing.
+-- `wellformed::counts::blacks_down` meets its contract. Assumes nothing.
 use borrow.Author.Needs.{needs}
 use Rattle.wellformed.proofs.Downs.{Descending, down-start, down-step, down-spent, down-none, down-past}
-use Rattle.wellformed.proofs.blacks_down.Statement.{statement}
-use Rattle.wellformed.proofs.blacks_down.Tie as tie
+use Rattle.wellformed.proofs.counts.blacks_down.Statement.{statement}
+use Rattle.wellformed.proofs.counts.blacks_down.Tie as tie
 
 abbrev Inv-loop : tie.InvT-loop
 Inv-loop left pc here₀ blacks₀ turns₀ here blacks turns = Descending left pc here₀ here blacks turns

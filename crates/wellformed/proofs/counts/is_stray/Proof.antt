@@ -1,8 +1,8 @@
--- `wellformed::is_stray` meets its contract. Assumes nothing.
+-- `wellformed::counts::is_stray` meets its contract. Assumes nothing.
 use borrow.Author.Tests.{eq-eqb, ne-eqb}
 use Rattle.model.specs.Check.{tidySlot}
-use Rattle.wellformed.proofs.is_stray.Statement.{statement}
-use Rattle.wellformed.proofs.is_stray.Tie as tie
+use Rattle.wellformed.proofs.counts.is_stray.Statement.{statement}
+use Rattle.wellformed.proofs.counts.is_stray.Tie as tie
 
 returns : tie.Need-returns
 unfolding tidySlot

@@ -1,8 +1,8 @@
--- `wellformed::between` meets its contract. Assumes nothing.
+-- `wellformed::slots::between` meets its contract. Assumes nothing.
 use borrow.Author.Needs.{needs}
 use Rattle.theory.specs.Quick.{isBetween}
-use Rattle.wellformed.proofs.between.Statement.{statement}
-use Rattle.wellformed.proofs.between.Tie as tie
+use Rattle.wellformed.proofs.slots.between.Statement.{statement}
+use Rattle.wellformed.proofs.slots.between.Tie as tie
 
 both-requires : tie.Need-both-requires
 both-requires c κs = search needs
