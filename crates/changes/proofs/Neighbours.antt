@@ -44,6 +44,11 @@ unfolding accept
 accepts-next lft p s k key t m = rw (placeBefore-next p t)
 accepts-next rgt p s k key t m = rw (placeAfter-next p t)
 
+-- a bound of both slots bounds the one that stands earlier
+earlier-below : (d : Side) {p n bound : ℕ} → p ≤ bound → n ≤ bound → earlierOf d p n ≤ bound
+earlier-below lft first second = second
+earlier-below rgt first second = first
+
 module _ {m : Lent} {p s : ℕ} (well : WellFormed m) {first code : Code}
     (position : PositionTested false (m .arrays .pc) p first) (both : BothTested (m .arrays .pc) first s code) where
   -- the position or the slot is refused
@@ -72,16 +77,10 @@ module _ {m : Lent} {p s : ℕ} (well : WellFormed m) {first code : Code}
 
     next-beside : (d : Side) → let n = nextIn p (facing d (slots (treeOf m))) in
         Beside (m .arrays .key) (earlierOf d p n) (earlierOf (opp d) p n)
-    next-beside lft =
-        record {
-          earlier-top = slot-key _ (next-slot lft p (treeOf m));
-          later-top = slot-key p (next-stands .here);
-        }
-    next-beside rgt =
-        record {
-          earlier-top = slot-key p (next-stands .here);
-          later-top = slot-key _ (next-slot rgt p (treeOf m));
-        }
+    next-beside d =
+        let first = slot-key p (next-stands .here) in
+        let second = slot-key _ (next-slot d p (treeOf m)) in
+        record { earlier-top = earlier-below d first second; later-top = earlier-below (opp d) first second }
 
     module _ {d : Side} {g : Gap} (gap : GapAt d m p g) where
       pub next-pre : InsertPre m g s

@@ -6,7 +6,7 @@ use mathlib.Core.Logic.{inr, ⊎-elim}
 use mathlib.Core.Option.{some}
 use mathlib.Core.Path.{_≡_, refl, sym, _∙_}
 use lib.ListN.{length}
-use Rattle.model.specs.Tree.{slots}
+use Rattle.model.specs.Tree.{rgt, slots}
 use Rattle.model.specs.Lent.{Lent, lent, treeOf}
 use Rattle.model.specs.WellFormed.{WellFormed}
 use Rattle.model.specs.Commands.{remove}
@@ -26,7 +26,7 @@ use Rattle.removal.proofs.Trees.{remove-asked, remove-lent}
 use Rattle.refusals.specs.Tested.{PositionTested}
 use Rattle.refusals.proofs.Callers.{answer-refused}
 use Rattle.placing.specs.Positions.{Stands}
-use Rattle.placing.proofs.Positions.{stands-position}
+use Rattle.placing.proofs.Positions.{step-found}
 use Rattle.changes.proofs.Calls.{answer-done}
 
 module _ {m : Lent} {p : ℕ} (well : WellFormed m) {code : Code}
@@ -58,7 +58,7 @@ module _ {m : Lent} {p : ℕ} (well : WellFormed m) {code : Code}
         → Made (removeAt (length (m .arrays .left)) (linksOf m) p) size left′ right′ pc′ root′
         → r ≡ record { code = done; probes = 0; slot = n }
         → record { answer = r; after = lent left′ right′ pc′ (m .arrays .key) root′ } ≡ operate (remove p) m
-    unfolding accept stands-position
+    unfolding accept
     removed-done next made e =
         answer-done well (remove p) (tests-remove m p ∙ sym tested ∙ passed)
-        (rw (e, remove-lent (well-holds m well) here made, next .is (stands-position remove-stands)))
+        (rw (e, remove-lent (well-holds m well) here made, step-found rgt remove-stands next))

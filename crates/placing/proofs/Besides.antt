@@ -7,7 +7,7 @@ use mathlib.Core.Path.{_≡_, refl, sym, _∙_}
 use native.Mathlib.Omega.{arith}
 use lib.Dec.{eqb}
 use borrow.Author.Tests.{eq-eqb, ne-eqb}
-use Rattle.model.specs.Tree.{Side, lft, rgt, Tree, leaf, node, opp, nod, isLeaf, topOf, slots, Frame, frame, plug}
+use Rattle.model.specs.Tree.{Side, lft, rgt, Tree, leaf, node, opp, isLeaf, topOf, slots, Frame, frame, plug}
 use Rattle.model.specs.Tree.{above, sideOf}
 use Rattle.model.specs.Lent.{Lent, at, capacity, treeOf}
 use Rattle.model.specs.Order.{firstSlot, following, nextIn}
@@ -24,14 +24,15 @@ use Rattle.theory.proofs.Lists.{member-reverse, sound-zero}
 use Rattle.theory.proofs.Focus.{standing, placeBeside-at, placeBeside-none, lacksChild-at, lacksChild-none}
 use Rattle.theory.proofs.Counts.{slot-low}
 use Rattle.theory.proofs.Sides.{opp-opp}
-use Rattle.theory.proofs.Places.{flip, spot-near}
+use Rattle.theory.proofs.Places.{flip, bounded, long, spot-near}
 use Rattle.theory.proofs.Holds.{well-holds}
 use Rattle.theory.proofs.HoldsDrawn.{holds-drawn}
 use Rattle.links.specs.Reads.{Got}
 use Rattle.descent.specs.declared.types.InsertCursor.{InsertCursor}
 use Rattle.descent.specs.Entries.{sideIf, placeTold}
 use Rattle.placing.specs.Positions.{Stands}
-use Rattle.placing.specs.Places.{At, besideAt, FoundBeside}
+use Rattle.placing.specs.Places.{At, besideAt, BesidePre, FoundBeside}
+use Rattle.placing.proofs.Positions.{slot-high}
 
 -- ---- beside: there is no position, it has no child on that side, or it has one
 
@@ -113,10 +114,11 @@ leaf-top leaf w sound = refl
 leaf-top (node c l x r) w sound = sym (ne-eqb x 0 (λ e. omega (arith, slot-low lft c l x r w sound)))
 
 module _ {m : Lent} {t : Tree} (h : Holds m t) where
-  held : (d : Side) → Drawn d (children d (linksOf m)) (children (opp d) (linksOf m)) (m .arrays .pc) (m .root)
+  -- lent numbers that hold a tree, seen from a side
+  holds-sided : (d : Side) → Drawn d (children d (linksOf m)) (children (opp d) (linksOf m)) (m .arrays .pc) (m .root)
       (capacity (m .arrays)) t
-  held lft = holds-drawn h
-  held rgt = flip (holds-drawn h)
+  holds-sided lft = holds-drawn h
+  holds-sided rgt = flip (holds-drawn h)
 
   lacks : (d : Side) (p : ℕ) → List·Memᴰ p (slots t)
       → lacksChild d p t ≡ eqb (at (children d (linksOf m)) p) 0
@@ -124,14 +126,20 @@ module _ {m : Lent} {t : Tree} (h : Holds m t) where
     where
       go : Standing d p t → lacksChild d p t ≡ eqb (at (children d (linksOf m)) p) 0
       go v =
-          let sound : Sound (capacity (m .arrays)) (plug (nod d (v .color) (v .near) p (v .far)) (v .way))
-          = rw (← v .whole) at (h .sound) in
           let spot : Spot d (children d (linksOf m)) (children (opp d) (linksOf m)) (m .arrays .pc) (m .root)
           (capacity (m .arrays)) d (v .color) (v .near) p (v .far) (v .way)
-          = record { held = rw (← v .whole) at (held d) } in
+          = record { held = rw (← v .whole) at (holds-sided d) } in
+          let sound = spot .held .sound in
           rw (spot-near spot, ← v .whole, lacksChild-at d (v .color) (v .near) p (v .far) (v .way) sound)
           (leaf-top (v .near) (frame d (v .color) p (v .far) ∷ v .way) sound)
 
+-- what a call of beside asks for
+pub beside-pre : (d : Side) {m : Lent} {p : ℕ} → Stands m p → BesidePre (children d (linksOf m)) p
+beside-pre d {m} {p} v =
+    let held = holds-sided (well-holds m (v .well)) d in
+    record { top = omega (arith, slot-high p (v .well) (v .here), long held); below = bounded held .near-below }
+
+-- the place that it tells is the one next to the position
 pub beside-at : (d : Side) {m : Lent} {p n : ℕ} {place : InsertCursor} → Stands m p
     → n ≡ nextIn p (facing d (slots (treeOf m))) → placeTold place ≡ besideAt (children d (linksOf m)) p n (opp d)
     → At place (placeNext d p (treeOf m))

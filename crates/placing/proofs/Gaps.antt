@@ -1,59 +1,38 @@
--- gap_after, gap_before, insert_in and may_stand: what their calls ask for, and the promises.
+-- gap_after, gap_before, insert_in and may_stand keep their promises.
 use Prim.Native.Nat.{ℕ}
 use mathlib.Core.Bool.{Bool, true, false}
-use mathlib.Core.Path.{_≡_, refl, sym, _∙_}
-use native.Mathlib.Omega.{arith}
-use Rattle.model.specs.Tree.{lft, rgt}
-use Rattle.model.specs.Lent.{Lent, at, keyOf}
-use Rattle.model.specs.Order.{prevIn}
+use mathlib.Core.Path.{_≡_, ap, sym, _∙_}
+use Rattle.model.specs.Tree.{Side, lft, rgt, opp, slots}
+use Rattle.model.specs.Lent.{Lent, at, keyOf, treeOf}
+use Rattle.model.specs.Order.{nextIn, prevIn}
 use Rattle.model.specs.Answers.{Answer, done, outOfOrder}
 use Rattle.theory.specs.Between.{between}
-use Rattle.theory.proofs.Holds.{well-holds}
-use Rattle.theory.proofs.HoldsDrawn.{holds-bounded}
-use Rattle.walks.specs.Steps.{Followed, Preceded}
+use Rattle.theory.specs.Links.{linksOf, children}
+use Rattle.theory.specs.Lists.{facing}
 use Rattle.descent.specs.declared.types.InsertCursor.{InsertCursor}
+use Rattle.descent.specs.Entries.{placeTold}
 use Rattle.refusals.proofs.Callers.{between-keys}
 use Rattle.placing.specs.declared.types.Gap.{Gap}
 use Rattle.placing.specs.Positions.{Stands, Fits}
-use Rattle.placing.specs.Places.{HungAt, BesidePre, FoundBeside, GapAt, InsertedIn}
-use Rattle.placing.proofs.Positions.{stands-position, slot-high}
+use Rattle.placing.specs.Places.{HungAt, besideAt, earlierOf, GapAt, InsertedIn}
+use Rattle.placing.proofs.Positions.{Stepped, step-found}
 use Rattle.placing.proofs.Besides.{beside-at}
 
--- ---- gap_after and gap_before
+-- ---- gap_after (the side rgt) and gap_before
 
-module _ {m : Lent} {p : ℕ} (v : Stands m p) where
-  -- what the call of beside asks for
-  pub beside-right : BesidePre (m .arrays .right) p
-  beside-right =
-      record {
-        top = omega (arith, slot-high p (v .well) (v .here), v .well .w1 .lengths .right);
-        below = holds-bounded (well-holds m (v .well)) .far-below;
-      }
-
-  pub beside-left : BesidePre (m .arrays .left) p
-  beside-left =
-      record {
-        top = omega (arith, slot-high p (v .well) (v .here), v .well .w1 .lengths .left);
-        below = holds-bounded (well-holds m (v .well)) .near-below;
-      }
-
-  module _ {n : ℕ} {place : InsertCursor} where
-    -- the promises
-    pub found-after : Followed (m .arrays .left) (m .arrays .right) (m .arrays .pc) (m .root) p n
-        → FoundBeside (m .arrays .right) p n true place
-        → GapAt rgt m p (record { earlier = record { 0 = p }; later = record { 0 = n }; place = place })
-    unfolding stands-position
-    found-after next f =
-        let is = next .is (stands-position v) in
-        record { earlier-is = refl; later-is = is; there = beside-at rgt v is (f .is) }
-
-    pub found-before : Preceded (m .arrays .left) (m .arrays .right) (m .arrays .pc) (m .root) p n
-        → FoundBeside (m .arrays .left) p n false place
-        → GapAt lft m p (record { earlier = record { 0 = n }; later = record { 0 = p }; place = place })
-    unfolding stands-position prevIn
-    found-before next f =
-        let is = next .is (stands-position v) in
-        record { earlier-is = is; later-is = refl; there = beside-at lft v is (f .is) }
+pub gap-found : (d : Side) {m : Lent} {p n : ℕ} {place : InsertCursor} → Stands m p
+    → n ≡ nextIn p (facing d (slots (treeOf m))) → placeTold place ≡ besideAt (children d (linksOf m)) p n (opp d)
+    → GapAt d m p (record {
+      earlier = record { 0 = earlierOf d p n };
+      later = record { 0 = earlierOf (opp d) p n };
+      place = place;
+    })
+gap-found d {p = p} v next told =
+    record {
+      earlier-is = ap (earlierOf d p) next;
+      later-is = ap (earlierOf (opp d) p) next;
+      there = beside-at d v next told;
+    }
 
 -- ---- insert_in
 
@@ -76,14 +55,12 @@ module _ {m : Lent} {g : Gap} {s k : ℕ} {fits : Bool} where
 
 -- ---- may_stand
 
-pub stand-fits : {m : Lent} {p earlier later k : ℕ} {fits : Bool} → Stands m p
-    → Preceded (m .arrays .left) (m .arrays .right) (m .arrays .pc) (m .root) p earlier
-    → Followed (m .arrays .left) (m .arrays .right) (m .arrays .pc) (m .root) p later
-    → fits ≡ between (at (m .arrays .key)) earlier k later → Fits m p k fits
-unfolding stands-position
+pub stand-fits : {m : Lent} {p earlier later k : ℕ} {fits : Bool} → Stands m p → Stepped lft m p earlier
+    → Stepped rgt m p later → fits ≡ between (at (m .arrays .key)) earlier k later → Fits m p k fits
+unfolding prevIn
 stand-fits {m} {p} {earlier} {later} {k} v before after e =
     record {
       is =
-          rw (← before .is (stands-position v), ← after .is (stands-position v))
+          rw (← step-found lft v before, ← step-found rgt v after)
           (e ∙ between-keys (m .arrays) earlier k later);
     }

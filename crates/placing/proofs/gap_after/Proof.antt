@@ -1,7 +1,9 @@
 -- `placing::gap_after` meets its contract. Assumes nothing.
 use borrow.Author.Needs.{needs}
-use Rattle.placing.proofs.Gaps.{beside-right, found-after}
-use Rattle.placing.proofs.Positions.{stands-position}
+use Rattle.model.specs.Tree.{rgt}
+use Rattle.placing.proofs.Besides.{beside-pre}
+use Rattle.placing.proofs.Gaps.{gap-found}
+use Rattle.placing.proofs.Positions.{stands-position, step-found}
 use Rattle.placing.proofs.gap_after.Statement.{statement}
 use Rattle.placing.proofs.gap_after.Tie as tie
 
@@ -9,7 +11,7 @@ next-requires : tie.Need-next-requires
 next-requires c κs = search (needs, stands-position)
 
 beside-requires : tie.Need-beside-requires
-beside-requires c κs = search (needs, beside-right)
+beside-requires c κs = search (needs, beside-pre rgt)
 
 returns : tie.Need-returns
 returns c =
@@ -17,7 +19,7 @@ returns c =
     let k0 = c .before in
     let next-e = k0 .next .ensures in
     let pre = k0 .before .before .before .before .before .pre in
-    found-after pre next-e beside-e
+    gap-found rgt pre (step-found rgt pre next-e) (beside-e .is)
 
 pub gap-after-spec : {M : Type 1} → statement M
 gap-after-spec = tie.close (tie.spec next-requires beside-requires returns)
