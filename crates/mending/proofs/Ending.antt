@@ -1,17 +1,16 @@
 -- sink_end: each call's demands, from what the calls before it left, and the promise.
 use Prim.Native.Nat.{ℕ}
-use mathlib.Core.Bool.{true≢false}
-use mathlib.Core.List.{List, _∷_}
-use mathlib.Core.Path.{_≡_, sym, ap, _∙_}
+use mathlib.Core.Bool.{Bool}
+use mathlib.Core.List.{List}
+use mathlib.Core.Path.{_≡_, sym, _∙_}
 use lib.ListN.{length}
 use lib.Dec.{eqb}
 use borrow.Author.Tests.{eq-eqb, ne-eqb}
 use Rattle.model.specs.Branch.{pick}
-use Rattle.model.specs.Tree.{Side, lft, rgt, opp, sameSide, Color, Tree, topOf, Frame, frame, plug}
-use Rattle.model.specs.Lent.{at}
-use Rattle.theory.specs.Links.{links, sideIn}
+use Rattle.model.specs.Tree.{Side, lft, rgt, opp, sameSide, Tree}
+use Rattle.theory.specs.Links.{links, children, sideIn}
 use Rattle.theory.specs.Rounds.{sinkAt, sinkEnd}
-use Rattle.theory.specs.Places.{Drawn, Firm, Mirrored, Made}
+use Rattle.theory.specs.Places.{Drawn, Mirrored, Made}
 use Rattle.theory.proofs.Sided.{sided-near, sided-parent}
 use Rattle.theory.proofs.Places.{flip, spot-bounded, spot-parent, spot-up, spot-side}
 use Rattle.links.specs.Reads.{GetPre, Got, ParentPre, GotParent}
@@ -21,82 +20,78 @@ use Rattle.mending.specs.Climbs.{SinkAtPre, Lacking}
 use Rattle.mending.proofs.Rounding.{Beside, beside}
 
 -- the sibling in focus
-pub lack-beside : {left right pc : List ℕ} {root s : ℕ} (k : Lacking left right pc root s)
-    → Beside lft left right pc root (k .size) (k .side) (k .color) (k .parent) (k .place) (k .way) s
-lack-beside k = beside (k .side) (k .color) (k .parent) (k .place) (k .way) (k .sibling) (k .held) (k .solid .0) (k .is)
+pub lack-beside : {left right pc : List ℕ} {root slot : ℕ} (pre : Lacking left right pc root slot)
+    → Beside lft left right pc root (pre .size) (pre .side) (pre .color) (pre .parent) (pre .place) (pre .way) slot
+lack-beside pre =
+    beside (pre .side) (pre .color) (pre .parent) (pre .place) (pre .way) (pre .sibling) (pre .held) (pre .solid .0)
+    (pre .is)
 
--- the near side is the left one, or the right one, by the side on which the sibling is
-module _ {left right pc : List ℕ} {root C : ℕ} (t : Tree) (c : Color) (q : ℕ) (u : Tree) (w : List Frame) {s : ℕ}
-    (is : s ≡ topOf u) where
-  left-sink : (e : Side) → Drawn lft left right pc root C (plug t (frame e c q u ∷ w)) → Firm e u
-      → eqb (at left q) s ≡ sameSide (opp e) lft → (at left q ≡ s → ⊥) → SinkAtPre left right pc root s q
-  left-sink lft held firm tested n = record {
-    side = lft;
-    size = C;
-    place = t;
-    color = c;
-    sibling = u;
-    way = w;
-    held = held;
-    firm = firm;
-    is = is;
-  }
-  left-sink rgt held firm tested n = absurd (true≢false (sym tested ∙ ne-eqb (at left q) s n))
+-- a drawing, seen from a side
+drawn-sided : (d : Side) {left right pc : List ℕ} {root size : ℕ} {tree : Tree}
+    → Drawn lft left right pc root size tree → let all = links left right pc root in
+    Drawn d (children d all) (children (opp d) all) pc root size tree
+drawn-sided lft held = held
+drawn-sided rgt held = flip held
 
-  right-sink : (e : Side) → Drawn lft left right pc root C (plug t (frame e c q u ∷ w)) → Firm e u
-      → eqb (at left q) s ≡ sameSide (opp e) lft → at left q ≡ s → SinkAtPre right left pc root s q
-  right-sink rgt held firm tested e = record {
-    side = rgt;
-    size = C;
-    place = t;
-    color = c;
-    sibling = u;
-    way = w;
-    held = flip held;
-    firm = firm;
-    is = is;
-  }
-  right-sink lft held firm tested e = absurd (true≢false (sym (eq-eqb (at left q) s e) ∙ tested))
+-- the side of a place, by the test whether its sibling is a left child
+side-by : (d : Side) (test : Bool) → test ≡ sameSide (opp d) lft → d ≡ opp (pick test lft rgt)
+side-by lft test tested = rw tested
+side-by rgt test tested = rw tested
 
--- q is the parent of s, and y the left child of q
-module _ {left right pc : List ℕ} {root s : ℕ} (k : Lacking left right pc root s) where
-  pub end-parent : ParentPre pc s
-  end-parent = in-parent (spot-in (lack-beside k .spot))
+module _ {left right pc : List ℕ} {root slot : ℕ} (pre : Lacking left right pc root slot) where
+  pub end-parent : ParentPre pc slot
+  end-parent = in-parent (spot-in (lack-beside pre .spot))
 
-  module _ {q : ℕ} (up : GotParent pc s q) where
-    q-is : q ≡ k .parent
-    q-is = up .is ∙ spot-parent (lack-beside k .spot)
+  module _ {parent : ℕ} (up : GotParent pc slot parent) where
+    parent-is : parent ≡ pre .parent
+    parent-is = up .is ∙ spot-parent (lack-beside pre .spot)
 
-    pub end-get : GetPre left q
-    end-get = rw q-is (in-get (spot-in (spot-up (lack-beside k .spot))))
+    pub end-get : GetPre left parent
+    end-get = rw parent-is (in-get (spot-in (spot-up (lack-beside pre .spot))))
 
-    module _ {y : ℕ} (first : Got left q y) where
-      y-is : y ≡ at left (k .parent)
-      y-is = first .is ∙ ap (at left) q-is
+    -- the near side is the one on which the place hangs
+    end-sink : (d : Side) → pre .side ≡ d → let all = links left right pc root in
+        SinkAtPre (children d all) (children (opp d) all) pc root slot parent
+    end-sink d side-is = rw parent-is (record {
+      side = d;
+      size = pre .size;
+      place = pre .place;
+      color = pre .color;
+      sibling = pre .sibling;
+      way = pre .way;
+      held = drawn-sided d (rw side-is at (pre .held));
+      firm = rw side-is at (pre .solid .0);
+      is = pre .is;
+    })
 
-      pub end-left : (y ≡ s → ⊥) → SinkAtPre left right pc root s q
-      end-left n =
-          rw q-is (left-sink (k .place) (k .color) (k .parent) (k .sibling) (k .way) (k .is) (k .side) (k .held)
-          (k .solid .0) (spot-side (lack-beside k .spot)) (λ i. n (y-is ∙ i)))
+    module _ {child : ℕ} (first : Got left parent child) where
+      side-is : pre .side ≡ opp (pick (eqb child slot) lft rgt)
+      side-is = side-by (pre .side) (eqb child slot) (rw (first .is, parent-is) (spot-side (lack-beside pre .spot)))
 
-      pub end-right : y ≡ s → SinkAtPre right left pc root s q
-      end-right e =
-          rw q-is (right-sink (k .place) (k .color) (k .parent) (k .sibling) (k .way) (k .is) (k .side) (k .held)
-          (k .solid .0) (spot-side (lack-beside k .spot)) (sym y-is ∙ e))
+      pub end-left : (child ≡ slot → ⊥) → SinkAtPre left right pc root slot parent
+      end-left apart = end-sink lft (side-is ∙ rw (ne-eqb child slot apart))
 
-      end-by : sinkEnd (links left right pc root) s
-          ≡ sinkAt (opp (pick (eqb y s) lft rgt)) (links left right pc root) s q
+      pub end-right : child ≡ slot → SinkAtPre right left pc root slot parent
+      end-right same = end-sink rgt (side-is ∙ rw (eq-eqb child slot same))
+
+      end-by : sinkEnd (links left right pc root) slot
+          ≡ sinkAt (opp (pick (eqb child slot) lft rgt)) (links left right pc root) slot parent
       unfolding sinkEnd sideIn
       end-by =
-          rw (sided-parent lft left right pc root s, ← up .is, sided-near lft left right pc root q, ← first .is)
+          rw (
+            sided-parent lft left right pc root slot,
+            ← up .is,
+            sided-near lft left right pc root parent,
+            ← first .is,
+          )
 
-      pub ended-left : {left′ right′ pc′ : List ℕ} {root′ : ℕ} → (y ≡ s → ⊥)
-          → Mirrored (λ d k. sinkAt d k s q) left right pc root left′ right′ pc′ root′
-          → Made (sinkEnd (links left right pc root) s) (length left) left′ right′ pc′ root′
-      ended-left n made = rw (end-by, ne-eqb y s n) (to-left made)
+      pub ended-left : {left′ right′ pc′ : List ℕ} {root′ : ℕ} → (child ≡ slot → ⊥)
+          → Mirrored (λ d k. sinkAt d k slot parent) left right pc root left′ right′ pc′ root′
+          → Made (sinkEnd (links left right pc root) slot) (length left) left′ right′ pc′ root′
+      ended-left apart made = rw (end-by, ne-eqb child slot apart) (to-left made)
 
-      pub ended-right : {left′ right′ pc′ : List ℕ} {root′ : ℕ} → y ≡ s
-          → Mirrored (λ d k. sinkAt d k s q) right left pc root right′ left′ pc′ root′
-          → Made (sinkEnd (links left right pc root) s) (length left) left′ right′ pc′ root′
-      ended-right e made =
-          rw (end-by, eq-eqb y s e) (to-right made (sym (spot-bounded (lack-beside k .spot) .same-far)))
+      pub ended-right : {left′ right′ pc′ : List ℕ} {root′ : ℕ} → child ≡ slot
+          → Mirrored (λ d k. sinkAt d k slot parent) right left pc root right′ left′ pc′ root′
+          → Made (sinkEnd (links left right pc root) slot) (length left) left′ right′ pc′ root′
+      ended-right same made =
+          rw (end-by, eq-eqb child slot same) (to-right made (sym (spot-bounded (lack-beside pre .spot) .same-far)))

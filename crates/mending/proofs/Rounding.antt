@@ -20,107 +20,126 @@ use Rattle.mending.specs.Climbs.{SinkAtPre}
 
 -- ---- what lower_end and red_turn want, by the sibling's colour
 
-module _ {d : Side} {near far pc : List ℕ} {root C : ℕ} {b : Tree} {s : ℕ} {k : Color} {q : ℕ} {t : Tree}
-    {w : List Frame} where
-  lower-end-at : (c : Color) {a : Tree} → Spot d near far pc root C d c a s b (frame (opp d) k q t ∷ w)
-      → redAt pc s ≡ false → LowerEndPre near far pc root s q
+module _ {d : Side} {near far pc : List ℕ} {root size : ℕ} {outer : Tree} {sibling : ℕ} {parent-color : Color}
+    {parent : ℕ} {place : Tree} {way : List Frame} where
+  lower-end-at : (color : Color) {inner : Tree}
+      → Spot d near far pc root size d color inner sibling outer (frame (opp d) parent-color parent place ∷ way)
+      → redAt pc sibling ≡ false → LowerEndPre near far pc root sibling parent
   lower-end-at red spot tested = absurd (true≢false (sym (spot-red spot) ∙ tested))
-  lower-end-at black {a} spot tested =
-      record { side = d; size = C; inner = a; outer = b; parent-color = k; place = t; way = w; spot = spot }
+  lower-end-at black {inner} spot tested = record {
+    side = d;
+    size = size;
+    inner = inner;
+    outer = outer;
+    parent-color = parent-color;
+    place = place;
+    way = way;
+    spot = spot;
+  }
 
-  red-turn-at : (c : Color) (a : Tree) → Spot d near far pc root C d c a s b (frame (opp d) k q t ∷ w)
-      → Firm d (nod d c a s b) → redAt pc s ≡ true → RedTurnPre near far pc root s q
-  red-turn-at black a spot firm tested = absurd (true≢false (sym tested ∙ spot-red spot))
-  red-turn-at red a spot firm tested = black-by d
-      (λ a. Spot d near far pc root C d red a s b (frame (opp d) k q t ∷ w) → RedTurnPre near far pc root s q)
-      (λ a m e spot. record {
+  red-turn-at : (color : Color) (inner : Tree)
+      → Spot d near far pc root size d color inner sibling outer (frame (opp d) parent-color parent place ∷ way)
+      → Firm d (nod d color inner sibling outer) → redAt pc sibling ≡ true → RedTurnPre near far pc root sibling parent
+  red-turn-at black inner spot firm tested = absurd (true≢false (sym tested ∙ spot-red spot))
+  red-turn-at red inner spot firm tested = black-by d
+      (λ tree. Spot d near far pc root size d red tree sibling outer (frame (opp d) parent-color parent place ∷ way)
+      → RedTurnPre near far pc root sibling parent)
+      (λ inner-near slot inner-far spot. record {
         side = d;
-        size = C;
-        inner-near = a;
-        m = m;
-        inner-far = e;
-        outer = b;
-        parent-color = k;
-        place = t;
-        way = w;
+        size = size;
+        inner-near = inner-near;
+        inner = slot;
+        inner-far = inner-far;
+        outer = outer;
+        parent-color = parent-color;
+        place = place;
+        way = way;
         spot = spot;
       })
-      a (firm-near d a s b firm) spot
+      inner (firm-near d inner sibling outer firm) spot
 
--- ---- the sibling of a place on the side e, in focus
+-- ---- the sibling of a place on a side, in focus
 
-pub record Beside (d : Side) (near far pc : List ℕ) (root C : ℕ) (e : Side) (k : Color) (q : ℕ) (t : Tree)
-    (w : List Frame) (s : ℕ) : Type 0 where
+pub record Beside (d : Side) (near far pc : List ℕ) (root size : ℕ) (side : Side) (parent-color : Color) (parent : ℕ)
+    (place : Tree) (way : List Frame) (sibling : ℕ) : Type 0 where
   pub color : Color
   pub inner : Tree
   pub outer : Tree
-  pub spot : Spot d near far pc root C e color inner s outer (frame (opp e) k q t ∷ w)
-  pub firm : Firm e (nod e color inner s outer)
+  pub spot : Spot d near far pc root size side color inner sibling outer
+      (frame (opp side) parent-color parent place ∷ way)
+  pub firm : Firm side (nod side color inner sibling outer)
 
-pub beside : {d : Side} {near far pc : List ℕ} {root C : ℕ} (e : Side) (k : Color) (q : ℕ) (t : Tree) (w : List Frame)
-    {s : ℕ} (u : Tree) → Drawn d near far pc root C (plug t (frame e k q u ∷ w)) → Firm e u → s ≡ topOf u
-    → Beside d near far pc root C e k q t w s
-beside {d} {near} {far} {pc} {root} {C} e k q t w {s} = by-side e
-    (λ u. Drawn d near far pc root C (plug t (frame e k q u ∷ w)) → Firm e u → s ≡ topOf u
-    → Beside d near far pc root C e k q t w s)
+pub beside : {d : Side} {near far pc : List ℕ} {root size : ℕ} (side : Side) (parent-color : Color) (parent : ℕ)
+    (place : Tree) (way : List Frame) {sibling : ℕ} (tree : Tree)
+    → Drawn d near far pc root size (plug place (frame side parent-color parent tree ∷ way)) → Firm side tree
+    → sibling ≡ topOf tree → Beside d near far pc root size side parent-color parent place way sibling
+beside {d} {near} {far} {pc} {root} {size} side parent-color parent place way {sibling} = by-side side
+    (λ tree. Drawn d near far pc root size (plug place (frame side parent-color parent tree ∷ way)) → Firm side tree
+    → sibling ≡ topOf tree → Beside d near far pc root size side parent-color parent place way sibling)
     (λ held none is. absurd none)
-    (λ c a x b held firm is.
-    rw is (record { color = c; inner = a; outer = b; spot = spot-beside e held; firm = firm }))
+    (λ color inner slot outer held firm is.
+    rw is (record { color = color; inner = inner; outer = outer; spot = spot-beside side held; firm = firm }))
 
 -- ---- sink_at
 
-module _ {near far pc : List ℕ} {root s q : ℕ} (k : SinkAtPre near far pc root s q) where
-  seen : Beside (k .side) near far pc root (k .size) (k .side) (k .color) q (k .place) (k .way) s
-  seen = beside (k .side) (k .color) q (k .place) (k .way) (k .sibling) (k .held) (k .firm) (k .is)
+module _ {near far pc : List ℕ} {root sibling parent : ℕ} (pre : SinkAtPre near far pc root sibling parent) where
+  seen : Beside (pre .side) near far pc root (pre .size) (pre .side) (pre .color) parent (pre .place) (pre .way) sibling
+  seen = beside (pre .side) (pre .color) parent (pre .place) (pre .way) (pre .sibling) (pre .held) (pre .firm) (pre .is)
 
-  slot : SlotIn near far pc s
+  slot : SlotIn near far pc sibling
   slot = spot-in (seen .spot)
 
-  pub sink-red : s ≤ length pc
+  pub sink-red : sibling ≤ length pc
   sink-red = omega (arith, slot .top, slot .lp)
 
-  module _ {red : Bool} (tested : GotRed pc s red) where
-    pub sink-lower : red ≡ false → LowerEndPre near far pc root s q
-    sink-lower e = lower-end-at (seen .color) (seen .spot) (sym (tested .is) ∙ e)
+  module _ {red : Bool} (tested : GotRed pc sibling red) where
+    pub sink-lower : red ≡ false → LowerEndPre near far pc root sibling parent
+    sink-lower none = lower-end-at (seen .color) (seen .spot) (sym (tested .is) ∙ none)
 
     pub sunk-black : {near′ far′ pc′ : List ℕ} {root′ : ℕ} → red ≡ false
-        → Mirrored (λ d k. lowerEnd d k s q) near far pc root near′ far′ pc′ root′
-        → Mirrored (λ d k. sinkAt d k s q) near far pc root near′ far′ pc′ root′
+        → Mirrored (λ d k. lowerEnd d k sibling parent) near far pc root near′ far′ pc′ root′
+        → Mirrored (λ d k. sinkAt d k sibling parent) near far pc root near′ far′ pc′ root′
     unfolding sinkAt
-    sunk-black e made = record {
-      is = λ d. rw (sided-color d near far pc root s, ← red-slot pc s (slot .pos), ← tested .is, e) (made .is d);
+    sunk-black none made = record {
+      is = λ d. rw (
+        sided-color d near far pc root sibling,
+        ← red-slot pc sibling (slot .pos),
+        ← tested .is,
+        none,
+      ) (made .is d);
       bounded = made .bounded;
       same = made .same;
     }
 
-    module _ (e : red ≡ true) where
-      pub sink-turn : RedTurnPre near far pc root s q
-      sink-turn = red-turn-at (seen .color) (seen .inner) (seen .spot) (seen .firm) (sym (tested .is) ∙ e)
+    module _ (is-red : red ≡ true) where
+      pub sink-turn : RedTurnPre near far pc root sibling parent
+      sink-turn = red-turn-at (seen .color) (seen .inner) (seen .spot) (seen .firm) (sym (tested .is) ∙ is-red)
 
-      module _ {near₁ far₁ pc₁ : List ℕ} {root₁ u : ℕ} (turned : RedTurned near far pc root s q near₁ far₁ pc₁ root₁ u)
+      module _ {near₁ far₁ pc₁ : List ℕ} {root₁ new : ℕ}
+          (turned : RedTurned near far pc root sibling parent near₁ far₁ pc₁ root₁ new)
         where
-          pub sink-parent : ParentPre pc₁ u
+          pub sink-parent : ParentPre pc₁ new
           sink-parent = in-parent (spot-in (turned .lower .spot))
 
-          module _ {q₁ : ℕ} (up : GotParent pc₁ u q₁) where
-            pub sink-lower-2 : LowerEndPre near₁ far₁ pc₁ root₁ u q₁
+          module _ {above : ℕ} (up : GotParent pc₁ new above) where
+            pub sink-lower-2 : LowerEndPre near₁ far₁ pc₁ root₁ new above
             sink-lower-2 = rw (up .is) (turned .lower)
 
             pub sunk-red : {near′ far′ pc′ : List ℕ} {root′ : ℕ}
-                → Mirrored (λ d k. lowerEnd d k u q₁) near₁ far₁ pc₁ root₁ near′ far′ pc′ root′
-                → Mirrored (λ d k. sinkAt d k s q) near far pc root near′ far′ pc′ root′
+                → Mirrored (λ d k. lowerEnd d k new above) near₁ far₁ pc₁ root₁ near′ far′ pc′ root′
+                → Mirrored (λ d k. sinkAt d k sibling parent) near far pc root near′ far′ pc′ root′
             unfolding sinkAt redEnd
             sunk-red made = record {
               is = λ d. rw (
-                sided-color d near far pc root s,
-                ← red-slot pc s (slot .pos),
+                sided-color d near far pc root sibling,
+                ← red-slot pc sibling (slot .pos),
                 ← tested .is,
-                e,
+                is-red,
                 ← turned .made .is d,
-                sided-near d near₁ far₁ pc₁ root₁ s,
-                sided-far d near₁ far₁ pc₁ root₁ (at near₁ s),
+                sided-near d near₁ far₁ pc₁ root₁ sibling,
+                sided-far d near₁ far₁ pc₁ root₁ (at near₁ sibling),
                 ← turned .is,
-                sided-parent d near₁ far₁ pc₁ root₁ u,
+                sided-parent d near₁ far₁ pc₁ root₁ new,
                 ← up .is,
               ) (made .is d);
               bounded = made .bounded;

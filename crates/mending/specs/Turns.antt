@@ -9,18 +9,18 @@ use Rattle.theory.specs.Slots.{parentAt}
 use Rattle.theory.specs.Programs.{redTurn}
 use Rattle.theory.specs.Places.{Bounded, Spot, Mirrored}
 
--- far_turn: s is the far child of q, and has a far child itself
-pub record FarTurnPre (near far pc : List ℕ) (root s q : ℕ) : Type 0 where
+-- far_turn: the sibling is the far child of the parent, and has a far child itself
+pub record FarTurnPre (near far pc : List ℕ) (root sibling parent : ℕ) : Type 0 where
   pub bounded : Bounded near far pc root
-  pub low : 0 < s
-  pub high : s ≤ length near
-  pub parent-low : 0 < q
-  pub parent-high : q ≤ length near
-  pub outer : 0 < at far s
-  pub child : 0 < at far q
+  pub low : 0 < sibling
+  pub high : sibling ≤ length near
+  pub parent-low : 0 < parent
+  pub parent-high : parent ≤ length near
+  pub outer : 0 < at far sibling
+  pub child : 0 < at far parent
 
--- near_turn: m, the near child of s, is red, and s is the far child of its parent
-pub record NearTurnPre (near far pc : List ℕ) (root s m : ℕ) : Type 0 where
+-- near_turn: the inner slot, which is the sibling's near child, is red, and the sibling is its parent's far child
+pub record NearTurnPre (near far pc : List ℕ) (root sibling inner : ℕ) : Type 0 where
   pub side : Side
   pub size : ℕ
   pub inner-near : Tree
@@ -31,11 +31,11 @@ pub record NearTurnPre (near far pc : List ℕ) (root s m : ℕ) : Type 0 where
   pub parent : ℕ
   pub place : Tree
   pub way : List Frame
-  pub spot : Spot side near far pc root size side red inner-near m inner-far
-      (frame side color s outer ∷ frame (opp side) parent-color parent place ∷ way)
+  pub spot : Spot side near far pc root size side red inner-near inner inner-far
+      (frame side color sibling outer ∷ frame (opp side) parent-color parent place ∷ way)
 
--- lower_end: s is black, and the far child of q
-pub record LowerEndPre (near far pc : List ℕ) (root s q : ℕ) : Type 0 where
+-- lower_end: the sibling is black, and the far child of the parent
+pub record LowerEndPre (near far pc : List ℕ) (root sibling parent : ℕ) : Type 0 where
   pub side : Side
   pub size : ℕ
   pub inner : Tree
@@ -43,24 +43,26 @@ pub record LowerEndPre (near far pc : List ℕ) (root s q : ℕ) : Type 0 where
   pub parent-color : Color
   pub place : Tree
   pub way : List Frame
-  pub spot : Spot side near far pc root size side black inner s outer (frame (opp side) parent-color q place ∷ way)
+  pub spot : Spot side near far pc root size side black inner sibling outer
+      (frame (opp side) parent-color parent place ∷ way)
 
--- red_turn: s is red, the far child of q, and has a black near child m
-pub record RedTurnPre (near far pc : List ℕ) (root s q : ℕ) : Type 0 where
+-- red_turn: the sibling is red, the far child of the parent, and has a black near child, the inner slot
+pub record RedTurnPre (near far pc : List ℕ) (root sibling parent : ℕ) : Type 0 where
   pub side : Side
   pub size : ℕ
   pub inner-near : Tree
-  pub m : ℕ
+  pub inner : ℕ
   pub inner-far : Tree
   pub outer : Tree
   pub parent-color : Color
   pub place : Tree
   pub way : List Frame
-  pub spot : Spot side near far pc root size side red (nod side black inner-near m inner-far) s outer
-      (frame (opp side) parent-color q place ∷ way)
+  pub spot : Spot side near far pc root size side red (nod side black inner-near inner inner-far) sibling outer
+      (frame (opp side) parent-color parent place ∷ way)
 
--- the new sibling u is black, so that lower_end may follow
-pub record RedTurned (near far pc : List ℕ) (root s q : ℕ) (near′ far′ pc′ : List ℕ) (root′ u : ℕ) : Type 0 where
-  pub made : Mirrored (λ d k. redTurn d k s q) near far pc root near′ far′ pc′ root′
-  pub is : u ≡ at far′ (at near′ s)
-  pub lower : LowerEndPre near′ far′ pc′ root′ u (parentAt pc′ u)
+-- the new sibling is black, so that lower_end may follow
+pub record RedTurned (near far pc : List ℕ) (root sibling parent : ℕ) (near′ far′ pc′ : List ℕ) (root′ new : ℕ)
+    : Type 0 where
+  pub made : Mirrored (λ d k. redTurn d k sibling parent) near far pc root near′ far′ pc′ root′
+  pub is : new ≡ at far′ (at near′ sibling)
+  pub lower : LowerEndPre near′ far′ pc′ root′ new (parentAt pc′ new)

@@ -152,7 +152,7 @@ pub fn red_turn(
     links::get(far, below)
 }
 
-// The end of the climb at any sibling.
+// The end of the climb at a sibling of either colour: a red one gives way to a black one first.
 pub fn sink_at(
     near: &mut [u32],
     far: &mut [u32],
@@ -175,7 +175,7 @@ pub fn sink_at(
     }
 }
 
-// The same, by the side on which the sibling is.
+// The end of the climb on left and right: near is the side that the sibling is not on.
 pub fn sink_end(left: &mut [u32], right: &mut [u32], pc: &mut [u32], root: &mut u32, slot: Slot)
     requires { ⌜ SinkEndPre (now left) (now right) (now pc) (now root) (slot .0) ⌝ }
     ensures { λ _. ⌜ Made

@@ -14,14 +14,15 @@ use Rattle.links.specs.Writes.{Released}
 use Rattle.turns.specs.Turns.{Adopted, ReplacedChild}
 use Rattle.removal.specs.Removals.{DetachPre}
 
-module _ {left right pc pc₁ left₂ right₂ : List ℕ} {root y n q root₂ : ℕ} (k : DetachPre left right pc root y n)
-    (up : GotParent pc y q) (adopted : Adopted pc n q pc₁)
-    (replaced : ReplacedChild left right root q y n left₂ right₂ root₂)
+module _ {left right pc pc₁ left₂ right₂ : List ℕ} {root slot child parent root₂ : ℕ}
+    (pre : DetachPre left right pc root slot child) (up : GotParent pc slot parent)
+    (adopted : Adopted pc child parent pc₁)
+    (replaced : ReplacedChild left right root parent slot child left₂ right₂ root₂)
   where
     all : Bounded left right pc root
-    all = k .bounded
+    all = pre .bounded
 
-    pub detach-release : SlotIn left₂ right₂ pc₁ y
+    pub detach-release : SlotIn left₂ right₂ pc₁ slot
     detach-release = record {
       left = replaced .near-below;
       right = replaced .far-below;
@@ -29,20 +30,20 @@ module _ {left right pc pc₁ left₂ right₂ : List ℕ} {root y n q root₂ :
       lr = replaced .same-far ∙ all .same-far ∙ sym (replaced .same-near);
       lp = adopted .same ∙ all .same-pc ∙ sym (replaced .same-near);
       small = omega (arith, replaced .same-near, all .small);
-      pos = k .low;
-      top = omega (arith, k .high, replaced .same-near);
+      pos = pre .low;
+      top = omega (arith, pre .high, replaced .same-near);
     }
 
-    pub detached : {left₃ right₃ pc₃ : List ℕ} → Released left₂ right₂ pc₁ y left₃ right₃ pc₃
-        → Made (detach (links left right pc root) y n) (length left) left₃ right₃ pc₃ root₂
+    pub detached : {left₃ right₃ pc₃ : List ℕ} → Released left₂ right₂ pc₁ slot left₃ right₃ pc₃
+        → Made (detach (links left right pc root) slot child) (length left) left₃ right₃ pc₃ root₂
     unfolding detach
     detached released =
         let before = detach-release in
         record {
           is = rw (
-            sided-parent lft left right pc root y,
+            sided-parent lft left right pc root slot,
             ← up .is,
-            sided-adopt lft left right pc root n q,
+            sided-adopt lft left right pc root child parent,
             ← adopted .is,
             ← replaced .is lft pc₁,
           ) (released .is root₂);

@@ -24,63 +24,69 @@ use Rattle.removal.specs.Removals.{DetachPre, FinishPre, OnePre}
 
 -- ---- finish_remove, at each of its four ends
 
-top-in : {left right pc : List ℕ} {root C : ℕ} (t : Tree) (w : List Frame) (n : ℕ)
-    → Drawn lft left right pc root C (plug t w) → n ≡ topOf t → (n ≡ 0 → ⊥) → SlotIn left right pc n
-top-in leaf w n held is some = absurd (some is)
-top-in {left} {right} {pc} {root} {C} (node c l x r) w n held is some =
-    let spot : Spot lft left right pc root C lft c l x r w = record { held = held } in
+top-in : {left right pc : List ℕ} {root size : ℕ} (tree : Tree) (way : List Frame) (child : ℕ)
+    → Drawn lft left right pc root size (plug tree way) → child ≡ topOf tree → (child ≡ 0 → ⊥)
+    → SlotIn left right pc child
+top-in leaf way child held is some = absurd (some is)
+top-in {left} {right} {pc} {root} {size} (node c l x r) way child held is some =
+    let spot : Spot lft left right pc root size lft c l x r way = record { held = held } in
     rw is (spot-in spot)
 
-lost-black : (c : ℕ) (lost : Color) → c ≡ colorCode lost → (c ≡ 0 → ⊥) → lost ≡ black
-lost-black c red is some = absurd (some is)
-lost-black c black is some = refl
+lost-black : (color : ℕ) (lost : Color) → color ≡ colorCode lost → (color ≡ 0 → ⊥) → lost ≡ black
+lost-black color red is some = absurd (some is)
+lost-black color black is some = refl
 
-module _ {left right pc : List ℕ} {root c n s : ℕ} (k : FinishPre left right pc root c n s) where
-  pub finish-red : c ≡ 0
-      → Made (finishRemove (length left) (links left right pc root) c n s) (length left) left right pc root
+module _ {left right pc : List ℕ} {root color child sibling : ℕ}
+    (pre : FinishPre left right pc root color child sibling) where
+  pub finish-red : color ≡ 0
+      → Made (finishRemove (length left) (links left right pc root) color child sibling) (length left)
+      left right pc root
   unfolding finishRemove
-  finish-red e = record { is = rw (eq-eqb c 0 e); bounded = bounded (k .held); same = refl }
+  finish-red e = record { is = rw (eq-eqb color 0 e); bounded = bounded (pre .held); same = refl }
 
-  module _ (dark : c ≡ 0 → ⊥) where
-    pub finish-color : (n ≡ 0 → ⊥) → SetColorPre pc n 1
-    finish-color some = in-set-color (top-in (k .tree) (k .way) n (k .held) (k .child) some) (omega arith)
+  module _ (dark : color ≡ 0 → ⊥) where
+    pub finish-color : (child ≡ 0 → ⊥) → SetColorPre pc child 1
+    finish-color some = in-set-color (top-in (pre .tree) (pre .way) child (pre .held) (pre .child) some) (omega arith)
 
-    pub finish-child : {pc′ : List ℕ} → (n ≡ 0 → ⊥) → SetColor pc n 1 pc′
-        → Made (finishRemove (length left) (links left right pc root) c n s) (length left) left right pc′ root
+    pub finish-child : {pc′ : List ℕ} → (child ≡ 0 → ⊥) → SetColor pc child 1 pc′
+        → Made (finishRemove (length left) (links left right pc root) color child sibling) (length left)
+        left right pc′ root
     unfolding finishRemove
     finish-child some painted = record {
       is = rw (
-        ne-eqb c 0 dark,
-        ne-eqb n 0 some,
-        sided-set-color lft left right pc root n 1,
+        ne-eqb color 0 dark,
+        ne-eqb child 0 some,
+        sided-set-color lft left right pc root child 1,
         ← painted .is,
       ) refl;
-      bounded = bounded-painted (bounded (k .held)) painted;
+      bounded = bounded-painted (bounded (pre .held)) painted;
       same = refl;
     }
 
-    module _ (none : n ≡ 0) where
-      pub finish-root : s ≡ 0
-          → Made (finishRemove (length left) (links left right pc root) c n s) (length left) left right pc root
+    module _ (none : child ≡ 0) where
+      pub finish-root : sibling ≡ 0
+          → Made (finishRemove (length left) (links left right pc root) color child sibling) (length left)
+          left right pc root
       unfolding finishRemove
       finish-root e = record {
-        is = rw (ne-eqb c 0 dark, eq-eqb n 0 none, eq-eqb s 0 e);
-        bounded = bounded (k .held);
+        is = rw (ne-eqb color 0 dark, eq-eqb child 0 none, eq-eqb sibling 0 e);
+        bounded = bounded (pre .held);
         same = refl;
       }
 
-      module _ (beside : s ≡ 0 → ⊥) where
-        pub finish-lack : Lacking left right pc root s
+      module _ (beside : sibling ≡ 0 → ⊥) where
+        pub finish-lack : Lacking left right pc root sibling
         finish-lack =
-            let solid = k .solid (lost-black c (k .lost) (k .color) dark) in
-            onward (k .tree) (k .way) s (k .held) solid (k .sibling) beside .lacking
+            let solid = pre .solid (lost-black color (pre .lost) (pre .color) dark) in
+            onward (pre .tree) (pre .way) sibling (pre .held) solid (pre .sibling) beside .lacking
 
         pub finish-climb : {left′ right′ pc′ : List ℕ} {root′ : ℕ}
-            → Made (postRemove (length left) (links left right pc root) s) (length left) left′ right′ pc′ root′
-            → Made (finishRemove (length left) (links left right pc root) c n s) (length left) left′ right′ pc′ root′
+            → Made (postRemove (length left) (links left right pc root) sibling) (length left) left′ right′ pc′ root′
+            → Made (finishRemove (length left) (links left right pc root) color child sibling) (length left)
+            left′ right′ pc′ root′
         unfolding finishRemove
         finish-climb made = record {
-          is = rw (ne-eqb c 0 dark, eq-eqb n 0 none, ne-eqb s 0 beside) (made .is);
+          is = rw (ne-eqb color 0 dark, eq-eqb child 0 none, ne-eqb sibling 0 beside) (made .is);
           bounded = made .bounded;
           same = made .same;
         }
@@ -93,53 +99,54 @@ child-high lft {x = x} spot = rw (← spot-near spot) (spot-bounded spot .near-b
 child-high rgt {x = x} spot =
     rw (← spot-over spot) (omega (arith, spot-bounded spot .far-below .each x, spot-bounded spot .same-far))
 
-module _ {left right pc : List ℕ} {root x n : ℕ} (k : OnePre left right pc root x n) where
-  pub one-color : SlotOf pc x
-  one-color = in-color (spot-in (k .spot))
+module _ {left right pc : List ℕ} {root slot child : ℕ} (pre : OnePre left right pc root slot child) where
+  pub one-color : SlotOf pc slot
+  one-color = in-color (spot-in (pre .spot))
 
-  pub one-sibling : SlotIn left right pc x
-  one-sibling = spot-in (k .spot)
+  pub one-sibling : SlotIn left right pc slot
+  one-sibling = spot-in (pre .spot)
 
-  pub one-detach : DetachPre left right pc root x n
+  pub one-detach : DetachPre left right pc root slot child
   one-detach = record {
-    bounded = spot-bounded (k .spot);
-    low = spot-low (k .spot);
-    high = spot-high (k .spot);
-    child = rw (k .child) (child-high (k .side) (k .spot));
+    bounded = spot-bounded (pre .spot);
+    low = spot-low (pre .spot);
+    high = spot-high (pre .spot);
+    child = rw (pre .child) (child-high (pre .side) (pre .spot));
   }
 
-  module _ {c s : ℕ} (shade : GotColor pc x c) (found : Sibling left right pc x s)
+  module _ {color sibling : ℕ} (shade : GotColor pc slot color) (found : Sibling left right pc slot sibling)
       {left₁ right₁ pc₁ : List ℕ} {root₁ : ℕ}
-      (cut : Made (detach (links left right pc root) x n) (length left) left₁ right₁ pc₁ root₁) where
-    pub one-finish : FinishPre left₁ right₁ pc₁ root₁ c n s
+      (cut : Made (detach (links left right pc root) slot child) (length left) left₁ right₁ pc₁ root₁) where
+    pub one-finish : FinishPre left₁ right₁ pc₁ root₁ color child sibling
     one-finish =
-        let h = k .spot .held .sound in let e = k .side in let t = k .tree in
-        let after = detach-sound e (k .color) t x (k .way) h in
+        let sound = pre .spot .held .sound in let e = pre .side in let t = pre .tree in
+        let after = detach-sound e (pre .color) t slot (pre .way) sound in
         record {
-          size = k .size;
-          lost = k .color;
+          size = pre .size;
+          lost = pre .color;
           tree = t;
-          way = k .way;
+          way = pre .way;
           held = record {
-            is = cut .is ∙ (λ i. detach (k .spot .held .is i) x (k .child i))
-                ∙ detach-drawn e (k .color) t x (k .way) h;
+            is = cut .is ∙ (λ i. detach (pre .spot .held .is i) slot (pre .child i))
+                ∙ detach-drawn e (pre .color) t slot (pre .way) sound;
             sound = after;
-            small = k .spot .held .small;
+            small = pre .spot .held .small;
           };
-          solid = mendable e (k .color) t x (k .way) (k .balanced) after .solid;
-          color = shade .is ∙ spot-color (k .spot);
-          child = k .child;
-          sibling = found .is root ∙ ap (λ (z : Links). siblingIn z x) (k .spot .held .is)
-              ∙ sibling-drawn (k .color) (on e t leaf) x (on e leaf t) (k .way) h;
+          solid = mendable e (pre .color) t slot (pre .way) (pre .balanced) after .solid;
+          color = shade .is ∙ spot-color (pre .spot);
+          child = pre .child;
+          sibling = found .is root ∙ ap (λ (z : Links). siblingIn z slot) (pre .spot .held .is)
+              ∙ sibling-drawn (pre .color) (on e t leaf) slot (on e leaf t) (pre .way) sound;
         }
 
     pub one-done : {left′ right′ pc′ : List ℕ} {root′ : ℕ}
-        → Made (finishRemove (length left₁) (links left₁ right₁ pc₁ root₁) c n s) (length left₁) left′ right′ pc′ root′
-        → Made (removeOne (length left) (links left right pc root) x n) (length left) left′ right′ pc′ root′
+        → Made (finishRemove (length left₁) (links left₁ right₁ pc₁ root₁) color child sibling) (length left₁)
+        left′ right′ pc′ root′
+        → Made (removeOne (length left) (links left right pc root) slot child) (length left) left′ right′ pc′ root′
     unfolding removeOne
     one-done made = record {
       is = rw (
-        sided-color lft left right pc root x,
+        sided-color lft left right pc root slot,
         ← shade .is,
         ← found .is root,
         ← cut .is,

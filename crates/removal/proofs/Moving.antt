@@ -19,104 +19,107 @@ use Rattle.turns.specs.Turns.{ReplaceWithPre}
 use Rattle.mending.specs.Passes.{Sibling}
 use Rattle.removal.specs.Removals.{DetachPre, FinishPre, TwoPre}
 
-module _ {left right pc : List ℕ} {root x y : ℕ} (k : TwoPre left right pc root x y) where
-  -- the way up from y, with x on it, and with y in its place
+module _ {left right pc : List ℕ} {root slot next : ℕ} (pre : TwoPre left right pc root slot next) where
+  -- the way up from `next`, with the slot on it, and with `next` in its place
   abbrev before : List Frame
-  before = k .inner ++ frame rgt (k .color) x (k .other) ∷ k .way
+  before = pre .inner ++ frame rgt (pre .color) slot (pre .other) ∷ pre .way
 
   abbrev after : List Frame
-  after = k .inner ++ frame rgt (k .color) y (k .other) ∷ k .way
+  after = pre .inner ++ frame rgt (pre .color) next (pre .other) ∷ pre .way
 
-  pub two-get : GetPre right y
-  two-get = in-get-far (spot-in (k .spot))
+  pub two-get : GetPre right next
+  two-get = in-get-far (spot-in (pre .spot))
 
-  pub two-color : SlotOf pc y
-  two-color = in-color (spot-in (k .spot))
+  pub two-color : SlotOf pc next
+  two-color = in-color (spot-in (pre .spot))
 
-  pub two-sibling : SlotIn left right pc y
-  two-sibling = spot-in (k .spot)
+  pub two-sibling : SlotIn left right pc next
+  two-sibling = spot-in (pre .spot)
 
-  module _ {n : ℕ} (child : Got right y n) where
-    n-is : n ≡ topOf (k .tree)
-    n-is = child .is ∙ spot-far (k .spot)
+  module _ {child : ℕ} (got-child : Got right next child) where
+    child-is : child ≡ topOf (pre .tree)
+    child-is = got-child .is ∙ spot-far (pre .spot)
 
-    pub two-detach : DetachPre left right pc root y n
+    pub two-detach : DetachPre left right pc root next child
     two-detach = record {
-      bounded = spot-bounded (k .spot);
-      low = spot-low (k .spot);
-      high = spot-high (k .spot);
-      child = omega (arith, child .top, spot-bounded (k .spot) .same-far);
+      bounded = spot-bounded (pre .spot);
+      low = spot-low (pre .spot);
+      high = spot-high (pre .spot);
+      child = omega (arith, got-child .top, spot-bounded (pre .spot) .same-far);
     }
 
     module _ {left₁ right₁ pc₁ : List ℕ} {root₁ : ℕ}
-        (cut : Made (detach (links left right pc root) y n) (length left) left₁ right₁ pc₁ root₁) where
-      cut-is : links left₁ right₁ pc₁ root₁ ≡ drawn (k .size) (plug (k .tree) before)
+        (cut : Made (detach (links left right pc root) next child) (length left) left₁ right₁ pc₁ root₁) where
+      cut-is : links left₁ right₁ pc₁ root₁ ≡ drawn (pre .size) (plug (pre .tree) before)
       cut-is =
-          cut .is ∙ (λ i. detach (k .spot .held .is i) y (n-is i))
-          ∙ detach-drawn rgt (k .next-color) (k .tree) y before (k .spot .held .sound)
+          cut .is ∙ (λ i. detach (pre .spot .held .is i) next (child-is i))
+          ∙ detach-drawn rgt (pre .next-color) (pre .tree) next before (pre .spot .held .sound)
 
-      pub two-replace : ReplaceWithPre left₁ right₁ pc₁ root₁ x y
+      pub two-replace : ReplaceWithPre left₁ right₁ pc₁ root₁ slot next
       two-replace =
-          let h = left-sound (k .next-color) y (k .tree) (k .inner) (k .color) (k .other) x (k .way)
-          (k .spot .held .sound) in
-          let inner = plug (k .tree) (k .inner) in
+          let h = left-sound (pre .next-color) next (pre .tree) (pre .inner) (pre .color) (pre .other) slot (pre .way)
+          (pre .spot .held .sound) in
+          let inner = plug (pre .tree) (pre .inner) in
           record {
             bounded = cut .bounded;
-            old-low = slot-low lft (k .color) (k .other) x inner (k .way) h;
+            old-low = slot-low lft (pre .color) (pre .other) slot inner (pre .way) h;
             old-high = omega (
               arith,
-              slot-high lft (k .color) (k .other) x inner (k .way) h,
-              long (k .spot .held),
+              slot-high lft (pre .color) (pre .other) slot inner (pre .way) h,
+              long (pre .spot .held),
               cut .same,
             );
-            new-low = spot-low (k .spot);
-            new-high = omega (arith, spot-high (k .spot), cut .same);
+            new-low = spot-low (pre .spot);
+            new-high = omega (arith, spot-high (pre .spot), cut .same);
           }
 
-      module _ {c s : ℕ} (shade : GotColor pc y c) (found : Sibling left right pc y s)
+      module _ {color sibling : ℕ} (shade : GotColor pc next color) (found : Sibling left right pc next sibling)
           {left₂ right₂ pc₂ : List ℕ} {root₂ : ℕ}
-          (moved : Made (replaceIn (links left₁ right₁ pc₁ root₁) x y) (length left₁) left₂ right₂ pc₂ root₂) where
-        pub two-finish : FinishPre left₂ right₂ pc₂ root₂ c n s
-        two-finish =
-            let h = k .spot .held .sound in
-            let mend : Mendable (k .size) (k .next-color) (k .tree) after
-            = moved-mendable (k .next-color) y (k .tree) (k .inner) (k .color) (k .other) x (k .way) h (k .balanced) in
-            record {
-              size = k .size;
-              lost = k .next-color;
-              tree = k .tree;
-              way = after;
-              held = record {
-                is = moved .is ∙ ap (λ (z : Links). replaceIn z x y) cut-is
-                    ∙ moved-drawn (k .next-color) y (k .tree) (k .inner) (k .color) (k .other) x (k .way) h;
-                sound = mend .sound;
-                small = k .spot .held .small;
-              };
-              solid = mend .solid;
-              color = shade .is ∙ spot-color (k .spot);
-              child = n-is;
-              sibling = found .is root ∙ ap (λ (z : Links). siblingIn z y) (k .spot .held .is)
-                  ∙ sibling-drawn (k .next-color) leaf y (k .tree) before h
-                  ∙ sibling-same (k .inner) (k .color) x y (k .other) (k .way);
-            }
+          (moved : Made (replaceIn (links left₁ right₁ pc₁ root₁) slot next) (length left₁) left₂ right₂ pc₂ root₂)
+        where
+          pub two-finish : FinishPre left₂ right₂ pc₂ root₂ color child sibling
+          two-finish =
+              let h = pre .spot .held .sound in
+              let mend : Mendable (pre .size) (pre .next-color) (pre .tree) after
+              = moved-mendable (pre .next-color) next (pre .tree) (pre .inner) (pre .color) (pre .other) slot
+              (pre .way) h (pre .balanced) in
+              record {
+                size = pre .size;
+                lost = pre .next-color;
+                tree = pre .tree;
+                way = after;
+                held = record {
+                  is = moved .is ∙ ap (λ (z : Links). replaceIn z slot next) cut-is
+                      ∙ moved-drawn (pre .next-color) next (pre .tree) (pre .inner) (pre .color) (pre .other) slot
+                      (pre .way) h;
+                  sound = mend .sound;
+                  small = pre .spot .held .small;
+                };
+                solid = mend .solid;
+                color = shade .is ∙ spot-color (pre .spot);
+                child = child-is;
+                sibling = found .is root ∙ ap (λ (z : Links). siblingIn z next) (pre .spot .held .is)
+                    ∙ sibling-drawn (pre .next-color) leaf next (pre .tree) before h
+                    ∙ sibling-same (pre .inner) (pre .color) slot next (pre .other) (pre .way);
+              }
 
-        pub two-done : {left′ right′ pc′ : List ℕ} {root′ : ℕ}
-            → Made (finishRemove (length left₂) (links left₂ right₂ pc₂ root₂) c n s) (length left₂)
-            left′ right′ pc′ root′
-            → Made (removeTwo (length left) (links left right pc root) x y) (length left) left′ right′ pc′ root′
-        unfolding removeTwo
-        two-done made = record {
-          is = rw (
-            sided-far lft left right pc root y,
-            ← child .is,
-            sided-color lft left right pc root y,
-            ← shade .is,
-            ← found .is root,
-            ← cut .is,
-            ← moved .is,
-            ← cut .same,
-            ← moved .same,
-          ) (made .is);
-          bounded = made .bounded;
-          same = made .same ∙ moved .same ∙ cut .same;
-        }
+          pub two-done : {left′ right′ pc′ : List ℕ} {root′ : ℕ}
+              → Made (finishRemove (length left₂) (links left₂ right₂ pc₂ root₂) color child sibling) (length left₂)
+              left′ right′ pc′ root′
+              → Made (removeTwo (length left) (links left right pc root) slot next) (length left) left′ right′ pc′ root′
+          unfolding removeTwo
+          two-done made = record {
+            is = rw (
+              sided-far lft left right pc root next,
+              ← got-child .is,
+              sided-color lft left right pc root next,
+              ← shade .is,
+              ← found .is root,
+              ← cut .is,
+              ← moved .is,
+              ← cut .same,
+              ← moved .same,
+            ) (made .is);
+            bounded = made .bounded;
+            same = made .same ∙ moved .same ∙ cut .same;
+          }

@@ -2,10 +2,12 @@
 use Prim.Native.Nat.{ℕ}
 use mathlib.Core.List.{List, [], _∷_, _++_}
 use mathlib.Core.Path.{_≡_, sym, ap, _∙_}
+use lib.Dec.{eqb}
 use lib.ListN.{length}
 use native.Mathlib.Omega.{arith}
 use borrow.Author.Tests.{eq-eqb, ne-eqb}
-use Rattle.model.specs.Tree.{lft, rgt, Color, Tree, leaf, node, Frame, frame, plug}
+use Rattle.model.specs.Branch.{pick}
+use Rattle.model.specs.Tree.{Side, lft, rgt, opp, Color, Tree, leaf, node, nod, topOf, Frame, frame, plug}
 use Rattle.model.specs.Lent.{at}
 use Rattle.model.specs.Removal.{firstOf}
 use Rattle.theory.specs.Balance.{Balanced}
@@ -26,163 +28,156 @@ use Rattle.walks.specs.Ends.{endAt, EndPre, EndPost}
 use Rattle.walks.proofs.Spines.{end-sided}
 use Rattle.removal.specs.Removals.{OnePre, TwoPre, Removable}
 
--- ---- what the calls want, from the place of x: a is its left child, and b its right one
+-- ---- what the calls want, from the place of the slot
 
-module _ {left right pc : List ℕ} {root C : ℕ} {c : Color} {x : ℕ} {w : List Frame} where
-  one-right : (a : Tree) {b : Tree} {n : ℕ} → Spot lft left right pc root C lft c a x b w
-      → Balanced (plug (node c a x b) w) → at left x ≡ 0 → n ≡ at right x → OnePre left right pc root x n
-  one-right leaf {b} spot balanced none is = record {
-    size = C;
-    side = rgt;
-    color = c;
-    tree = b;
-    way = w;
-    spot = record { held = spot .held };
-    balanced = balanced;
-    child = is ∙ spot-far spot;
-  }
-  one-right (node k l y r) {b} spot balanced none is =
-      let below : Spot lft left right pc root C lft k l y r (frame lft c x b ∷ w) = record { held = spot .held } in
-      absurd (omega (arith, spot-near spot, spot-low below))
-
-  one-left : {a : Tree} (b : Tree) {n : ℕ} → Spot lft left right pc root C lft c a x b w
-      → Balanced (plug (node c a x b) w) → at right x ≡ 0 → n ≡ at left x → OnePre left right pc root x n
-  one-left {a} leaf spot balanced none is = record {
-    size = C;
-    side = lft;
-    color = c;
-    tree = a;
-    way = w;
+module _ {left right pc : List ℕ} {root size : ℕ} {color : Color} {slot : ℕ} {way : List Frame} where
+  -- a slot without a child on the far side
+  one-at : (d : Side) {near : Tree} (far : Tree) {child : ℕ}
+      → Spot lft left right pc root size d color near slot far way → Balanced (plug (nod d color near slot far) way)
+      → topOf far ≡ 0 → child ≡ topOf near → OnePre left right pc root slot child
+  one-at d {near} leaf spot balanced none is = record {
+    size = size;
+    side = d;
+    color = color;
+    tree = near;
+    way = way;
     spot = spot;
     balanced = balanced;
-    child = is ∙ spot-near spot;
+    child = is;
   }
-  one-left {a} (node k l y r) spot balanced none is =
-      let below : Spot lft left right pc root C lft k l y r (frame rgt c x a ∷ w) = spot-beside lft (spot .held) in
-      absurd (omega (arith, spot-far spot, spot-low below))
+  one-at d {near} (node shade before start after) spot balanced none is =
+      let over = frame (opp d) color slot near ∷ way in
+      let below : Spot lft left right pc root size lft shade before start after over = spot-beside d (spot .held) in
+      absurd (omega (arith, none, spot-low below))
 
   -- the right child is the start of a chain of left links
-  right-end : {a : Tree} (b : Tree) {n : ℕ} → Spot lft left right pc root C lft c a x b w → n ≡ at right x
-      → (n ≡ 0 → ⊥) → EndPre left n
+  right-end : {other : Tree} (tree : Tree) {child : ℕ} → Spot lft left right pc root size lft color other slot tree way
+      → child ≡ at right slot → (child ≡ 0 → ⊥) → EndPre left child
   right-end leaf spot is some = absurd (some (is ∙ spot-far spot))
-  right-end {a} (node k l y r) spot is some = rw (is ∙ spot-far spot) (record {
+  right-end {other} (node shade before start after) spot is some = rw (is ∙ spot-far spot) (record {
     side = lft;
     other = right;
     pc = pc;
     root = root;
-    size = C;
-    color = k;
-    near = l;
-    far = r;
-    way = frame rgt c x a ∷ w;
+    size = size;
+    color = shade;
+    near = before;
+    far = after;
+    way = frame rgt color slot other ∷ way;
     spot = spot-beside lft (spot .held);
   })
 
   -- whose end is the first node of that child
-  two-at : {a : Tree} (b : Tree) {n y : ℕ} → Spot lft left right pc root C lft c a x b w
-      → Balanced (plug (node c a x b) w) → n ≡ at right x → (n ≡ 0 → ⊥) → y ≡ endAt (length left) left n
-      → TwoPre left right pc root x y
+  two-at : {other : Tree} (tree : Tree) {child next : ℕ}
+      → Spot lft left right pc root size lft color other slot tree way
+      → Balanced (plug (node color other slot tree) way) → child ≡ at right slot → (child ≡ 0 → ⊥)
+      → next ≡ endAt (length left) left child → TwoPre left right pc root slot next
   two-at leaf spot balanced is some end = absurd (some (is ∙ spot-far spot))
-  two-at {a} (node k l z r) {n} {y} spot balanced is some end =
-      let f = firstOf k l z r [] in let over = frame rgt c x a ∷ w in
-      let below : Spot lft left right pc root C lft k l z r over = spot-beside lft (spot .held) in
-      let first = node (f .color) leaf (f .slot) (f .right) in
-      let there : plug first (f .way ++ over) ≡ plug (node c a x (node k l z r)) w
-      = plug-append first (f .way) over
-      ∙ ap (λ (t : Tree). plug (node c a x t) w) (first-plug k l z r []) in
-      let y-is : y ≡ f .slot
+  two-at {other} (node shade before start after) {child} {next} spot balanced is some end =
+      let found = firstOf shade before start after [] in let over = frame rgt color slot other ∷ way in
+      let below : Spot lft left right pc root size lft shade before start after over
+      = spot-beside lft (spot .held) in
+      let first = node (found .color) leaf (found .slot) (found .right) in
+      let there : plug first (found .way ++ over) ≡ plug (node color other slot (node shade before start after)) way
+      = plug-append first (found .way) over
+      ∙ ap (λ (t : Tree). plug (node color other slot t) way) (first-plug shade before start after []) in
+      let next-is : next ≡ found .slot
       = end ∙ ap (endAt (length left) left) (is ∙ spot-far spot)
-      ∙ sym (end-sided (length left) lft left right pc root z)
-      ∙ ap (λ (m : Links). endOf lft (length left) m z) (spot .held .is)
-      ∙ end-drawn lft (length left) (node k l z r) over (spot-low below) (omega (arith, spot-deep below))
-      (spot .held .sound)
-      ∙ sym (first-slot k l z r []) in
-      let held : Drawn lft left right pc root C (plug first (f .way ++ over)) = rw there (spot .held) in
-      rw y-is (record {
-        size = C;
-        next-color = f .color;
-        tree = f .right;
-        inner = f .way;
-        color = c;
-        other = a;
-        way = w;
+      ∙ sym (end-sided (length left) lft left right pc root start)
+      ∙ ap (λ (k : Links). endOf lft (length left) k start) (spot .held .is)
+      ∙ end-drawn lft (length left) (node shade before start after) over (spot-low below)
+      (omega (arith, spot-deep below)) (spot .held .sound)
+      ∙ sym (first-slot shade before start after []) in
+      let held : Drawn lft left right pc root size (plug first (found .way ++ over)) = rw there (spot .held) in
+      rw next-is (record {
+        size = size;
+        next-color = found .color;
+        tree = found .right;
+        inner = found .way;
+        color = color;
+        other = other;
+        way = way;
         spot = record { held = held };
         balanced = rw there balanced;
       })
 
 -- ---- remove
 
-module _ {left right pc : List ℕ} {root x : ℕ} (k : Removable left right pc root x) where
-  v : Standing lft x (k .tree)
-  v = standing lft x (k .tree) (k .stands)
+module _ {left right pc : List ℕ} {root slot : ℕ} (pre : Removable left right pc root slot) where
+  place : Standing lft slot (pre .tree)
+  place = standing lft slot (pre .tree) (pre .stands)
 
-  spot : Spot lft left right pc root (k .size) lft (v .color) (v .near) x (v .far) (v .way)
-  spot = record { held = rw (v .whole) (k .held) }
+  spot : Spot lft left right pc root (pre .size) lft (place .color) (place .near) slot (place .far) (place .way)
+  spot = record { held = rw (place .whole) (pre .held) }
 
-  balanced : Balanced (plug (node (v .color) (v .near) x (v .far)) (v .way))
-  balanced = rw (v .whole) (k .balanced)
+  balanced : Balanced (plug (node (place .color) (place .near) slot (place .far)) (place .way))
+  balanced = rw (place .whole) (pre .balanced)
 
-  pub remove-get : GetPre left x
+  pub remove-get : GetPre left slot
   remove-get = in-get (spot-in spot)
 
-  pub remove-get-2 : GetPre right x
+  pub remove-get-2 : GetPre right slot
   remove-get-2 = in-get-far (spot-in spot)
 
-  module _ {a b : ℕ} (first : Got left x a) (second : Got right x b) where
-    pub remove-right : a ≡ 0 → OnePre left right pc root x b
-    remove-right e = one-right (v .near) spot balanced (sym (first .is) ∙ e) (second .is)
-
-    pub removed-right : {left′ right′ pc′ : List ℕ} {root′ : ℕ} → a ≡ 0
-        → Made (removeOne (length left) (links left right pc root) x b) (length left) left′ right′ pc′ root′
-        → Made (removeAt (length left) (links left right pc root) x) (length left) left′ right′ pc′ root′
+  module _ {left-child right-child : ℕ} (first : Got left slot left-child) (second : Got right slot right-child) where
+    -- the model's choice, by the children that were read
+    remove-by : let all = links left right pc root in
+        removeAt (length left) all slot
+        ≡ pick (eqb left-child 0) (removeOne (length left) all slot right-child)
+        (pick (eqb right-child 0) (removeOne (length left) all slot left-child)
+        (removeTwo (length left) all slot (endOf lft (length left) all right-child)))
     unfolding removeAt
-    removed-right e made =
+    remove-by =
         rw (
-          sided-near lft left right pc root x,
+          sided-near lft left right pc root slot,
           ← first .is,
-          sided-far lft left right pc root x,
+          sided-far lft left right pc root slot,
           ← second .is,
-          eq-eqb a 0 e,
-        ) made
+        )
 
-    module _ (n : a ≡ 0 → ⊥) where
-      pub remove-left : b ≡ 0 → OnePre left right pc root x a
-      remove-left e = one-left (v .far) spot balanced (sym (second .is) ∙ e) (first .is)
+    pub remove-right : left-child ≡ 0 → OnePre left right pc root slot right-child
+    remove-right none =
+        let over : Spot lft left right pc root (pre .size) rgt (place .color) (place .far) slot (place .near)
+        (place .way)
+        = record { held = spot .held } in
+        one-at rgt (place .near) over balanced
+        (sym (spot-near spot) ∙ sym (first .is) ∙ none) (second .is ∙ spot-far spot)
 
-      pub removed-left : {left′ right′ pc′ : List ℕ} {root′ : ℕ} → b ≡ 0
-          → Made (removeOne (length left) (links left right pc root) x a) (length left) left′ right′ pc′ root′
-          → Made (removeAt (length left) (links left right pc root) x) (length left) left′ right′ pc′ root′
-      unfolding removeAt
-      removed-left e made =
-          rw (
-            sided-near lft left right pc root x,
-            ← first .is,
-            sided-far lft left right pc root x,
-            ← second .is,
-            ne-eqb a 0 n,
-            eq-eqb b 0 e,
-          ) made
+    pub removed-right : {left′ right′ pc′ : List ℕ} {root′ : ℕ} → left-child ≡ 0
+        → Made (removeOne (length left) (links left right pc root) slot right-child) (length left)
+        left′ right′ pc′ root′
+        → Made (removeAt (length left) (links left right pc root) slot) (length left) left′ right′ pc′ root′
+    removed-right none made = rw (remove-by, eq-eqb left-child 0 none) made
 
-      module _ (n₂ : b ≡ 0 → ⊥) where
-        pub remove-end : EndPre left b
-        remove-end = right-end (v .far) spot (second .is) n₂
+    module _ (some-left : left-child ≡ 0 → ⊥) where
+      pub remove-left : right-child ≡ 0 → OnePre left right pc root slot left-child
+      remove-left none =
+          one-at lft (place .far) spot balanced
+          (sym (spot-far spot) ∙ sym (second .is) ∙ none) (first .is ∙ spot-near spot)
 
-        module _ {y : ℕ} (end : EndPost left b y) where
-          pub remove-two : TwoPre left right pc root x y
-          remove-two = two-at (v .far) spot balanced (second .is) n₂ (end .is)
+      pub removed-left : {left′ right′ pc′ : List ℕ} {root′ : ℕ} → right-child ≡ 0
+          → Made (removeOne (length left) (links left right pc root) slot left-child) (length left)
+          left′ right′ pc′ root′
+          → Made (removeAt (length left) (links left right pc root) slot) (length left) left′ right′ pc′ root′
+      removed-left none made = rw (remove-by, ne-eqb left-child 0 some-left, eq-eqb right-child 0 none) made
+
+      module _ (some-right : right-child ≡ 0 → ⊥) where
+        pub remove-end : EndPre left right-child
+        remove-end = right-end (place .far) spot (second .is) some-right
+
+        module _ {next : ℕ} (end : EndPost left right-child next) where
+          pub remove-two : TwoPre left right pc root slot next
+          remove-two = two-at (place .far) spot balanced (second .is) some-right (end .is)
 
           pub removed-two : {left′ right′ pc′ : List ℕ} {root′ : ℕ}
-              → Made (removeTwo (length left) (links left right pc root) x y) (length left) left′ right′ pc′ root′
-              → Made (removeAt (length left) (links left right pc root) x) (length left) left′ right′ pc′ root′
-          unfolding removeAt
+              → Made (removeTwo (length left) (links left right pc root) slot next) (length left)
+              left′ right′ pc′ root′
+              → Made (removeAt (length left) (links left right pc root) slot) (length left) left′ right′ pc′ root′
           removed-two made =
               rw (
-                sided-near lft left right pc root x,
-                ← first .is,
-                sided-far lft left right pc root x,
-                ← second .is,
-                ne-eqb a 0 n,
-                ne-eqb b 0 n₂,
-                end-sided (length left) lft left right pc root b,
+                remove-by,
+                ne-eqb left-child 0 some-left,
+                ne-eqb right-child 0 some-right,
+                end-sided (length left) lft left right pc root right-child,
                 ← end .is,
               ) made

@@ -18,29 +18,29 @@ use Rattle.theory.proofs.Reading.{draw-with}
 use Rattle.removal.specs.Removals.{Removable}
 
 -- The drawing of a balanced tree becomes the drawing of the tree without the slot.
-pub remove-links : {left right pc : List ℕ} {root x size : ℕ} {left′ right′ pc′ : List ℕ} {root′ : ℕ}
-    (k : Removable left right pc root x)
-    → Made (removeAt (length left) (links left right pc root) x) size left′ right′ pc′ root′
-    → links left′ right′ pc′ root′ ≡ drawn (k .size) (removed x (k .tree))
-remove-links {left} {right} {pc} {root} {x} k made =
-    made .is ∙ (λ i. removeAt (long (k .held) i) (k .held .is i) x)
-    ∙ remove-drawing (k .tree) (k .held .sound) x (k .stands) (k .balanced)
+pub remove-links : {left right pc : List ℕ} {root slot size : ℕ} {left′ right′ pc′ : List ℕ} {root′ : ℕ}
+    (pre : Removable left right pc root slot)
+    → Made (removeAt (length left) (links left right pc root) slot) size left′ right′ pc′ root′
+    → links left′ right′ pc′ root′ ≡ drawn (pre .size) (removed slot (pre .tree))
+remove-links {slot = slot} pre made =
+    made .is ∙ (λ i. removeAt (long (pre .held) i) (pre .held .is i) slot)
+    ∙ remove-drawing (pre .tree) (pre .held .sound) slot (pre .stands) (pre .balanced)
 
-module _ {m : Lent} {t : Tree} {x : ℕ} (h : Holds m t) (stands : List·Memᴰ x (slots t)) where
-  pub remove-asked : Removable (m .arrays .left) (m .arrays .right) (m .arrays .pc) (m .root) x
+module _ {m : Lent} {tree : Tree} {slot : ℕ} (holds : Holds m tree) (stands : List·Memᴰ slot (slots tree)) where
+  pub remove-asked : Removable (m .arrays .left) (m .arrays .right) (m .arrays .pc) (m .root) slot
   remove-asked = record {
     size = capacity (m .arrays);
-    tree = t;
-    held = holds-drawn h;
-    balanced = h .balanced;
+    tree = tree;
+    held = holds-drawn holds;
+    balanced = holds .balanced;
     stands = stands;
   }
 
   -- On lent numbers that hold a tree remove leaves, with the same keys, what the model's remove leaves.
   pub remove-lent : {size : ℕ} {left′ right′ pc′ : List ℕ} {root′ : ℕ}
-      → Made (removeAt (length (m .arrays .left)) (linksOf m) x) size left′ right′ pc′ root′
-      → lent left′ right′ pc′ (m .arrays .key) root′ ≡ withTree (removed x t) m
+      → Made (removeAt (length (m .arrays .left)) (linksOf m) slot) size left′ right′ pc′ root′
+      → lent left′ right′ pc′ (m .arrays .key) root′ ≡ withTree (removed slot tree) m
   unfolding withTree remove-asked
   remove-lent made =
       ap (withKeys (m .arrays .key)) (remove-links remove-asked made)
-      ∙ sym (draw-with (capacity (m .arrays)) (removed x t) (m .arrays .key))
+      ∙ sym (draw-with (capacity (m .arrays)) (removed slot tree) (m .arrays .key))

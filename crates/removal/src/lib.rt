@@ -29,7 +29,7 @@ pub fn detach(
     links::release(left, right, pc, slot);
 }
 
-// What is left to do once a child, or 0, stands where a node of this colour was, beside the sibling or 0.
+// Makes up for a lost node of this colour, in whose place a child, or 0, now stands beside the sibling or 0.
 pub fn finish_remove(
     left: &mut [u32],
     right: &mut [u32],
@@ -60,7 +60,7 @@ pub fn finish_remove(
     mending::post_remove(left, right, pc, root, sibling);
 }
 
-// A slot with one child at the most.
+// Takes out a slot with one child at the most, which takes its place.
 pub fn remove_one(
     left: &mut [u32],
     right: &mut [u32],
@@ -83,7 +83,7 @@ pub fn remove_one(
     finish_remove(left, right, pc, root, color, child, sibling);
 }
 
-// A slot with two children, of which `next` is the next one.
+// Takes out a slot with two children: `next`, the slot after it, moves into its place.
 pub fn remove_two(
     left: &mut [u32],
     right: &mut [u32],
@@ -108,7 +108,7 @@ pub fn remove_two(
     finish_remove(left, right, pc, root, color, child, sibling);
 }
 
-// Takes a slot out of the tree.
+// Takes out a slot, by the children that it has.
 pub fn remove(left: &mut [u32], right: &mut [u32], pc: &mut [u32], root: &mut u32, slot: Slot)
     requires { ⌜ Removable (now left) (now right) (now pc) (now root) (slot .0) ⌝ }
     ensures { λ _. ⌜ Made
