@@ -7,12 +7,12 @@ use lib.ListN.{length}
 use lib.Dec.{eqb}
 use borrow.Author.Tests.{eq-eqb, ne-eqb}
 use Rattle.model.specs.Branch.{pick}
-use Rattle.model.specs.Tree.{Side, lft, rgt, opp, sameSide, Tree}
+use Rattle.model.specs.Tree.{Side, lft, rgt, opp, sameSide}
 use Rattle.theory.specs.Links.{links, children, sideIn}
 use Rattle.theory.specs.Rounds.{sinkAt, sinkEnd}
-use Rattle.theory.specs.Places.{Drawn, Mirrored, Made}
+use Rattle.theory.specs.Places.{Mirrored, Made}
 use Rattle.theory.proofs.Sided.{sided-near, sided-parent}
-use Rattle.theory.proofs.Places.{flip, spot-bounded, spot-parent, spot-up, spot-side}
+use Rattle.theory.proofs.Places.{drawn-sided, spot-bounded, spot-parent, spot-up, spot-side}
 use Rattle.links.specs.Reads.{GetPre, Got, ParentPre, GotParent}
 use Rattle.links.proofs.Spots.{spot-in, in-get, in-parent}
 use Rattle.turns.proofs.Mirrors.{to-left, to-right}
@@ -25,13 +25,6 @@ pub lack-beside : {left right pc : List ℕ} {root slot : ℕ} (pre : Lacking le
 lack-beside pre =
     beside (pre .side) (pre .color) (pre .parent) (pre .place) (pre .way) (pre .sibling) (pre .held) (pre .solid .0)
     (pre .is)
-
--- a drawing, seen from a side
-drawn-sided : (d : Side) {left right pc : List ℕ} {root size : ℕ} {tree : Tree}
-    → Drawn lft left right pc root size tree → let all = links left right pc root in
-    Drawn d (children d all) (children (opp d) all) pc root size tree
-drawn-sided lft held = held
-drawn-sided rgt held = flip held
 
 -- the side of a place, by the test whether its sibling is a left child
 side-by : (d : Side) (test : Bool) → test ≡ sameSide (opp d) lft → d ≡ opp (pick test lft rgt)

@@ -24,7 +24,7 @@ use Rattle.theory.proofs.Lists.{member-reverse, sound-zero}
 use Rattle.theory.proofs.Focus.{standing, placeBeside-at, placeBeside-none, lacksChild-at, lacksChild-none}
 use Rattle.theory.proofs.Counts.{slot-low}
 use Rattle.theory.proofs.Sides.{opp-opp}
-use Rattle.theory.proofs.Places.{flip, bounded, long, spot-near}
+use Rattle.theory.proofs.Places.{drawn-sided, bounded, long, spot-near}
 use Rattle.theory.proofs.Holds.{well-holds}
 use Rattle.theory.proofs.HoldsDrawn.{holds-drawn}
 use Rattle.links.specs.Reads.{Got}
@@ -117,8 +117,7 @@ module _ {m : Lent} {t : Tree} (h : Holds m t) where
   -- lent numbers that hold a tree, seen from a side
   holds-sided : (d : Side) → Drawn d (children d (linksOf m)) (children (opp d) (linksOf m)) (m .arrays .pc) (m .root)
       (capacity (m .arrays)) t
-  holds-sided lft = holds-drawn h
-  holds-sided rgt = flip (holds-drawn h)
+  holds-sided d = drawn-sided d (holds-drawn h)
 
   lacks : (d : Side) (p : ℕ) → List·Memᴰ p (slots t)
       → lacksChild d p t ≡ eqb (at (children d (linksOf m)) p) 0

@@ -12,7 +12,7 @@ use Rattle.model.specs.Lent.{at, colorCode}
 use Rattle.model.specs.Draw.{childCell, pcCell, written, listed, lay, draw}
 use Rattle.theory.specs.Sound.{Sound}
 use Rattle.theory.specs.Slots.{parentAt, colorAt, Below, Parents}
-use Rattle.theory.specs.Links.{Links, links, drawn, childIn, parentIn, colorIn}
+use Rattle.theory.specs.Links.{Links, links, drawn, children, childIn, parentIn, colorIn}
 use Rattle.theory.specs.Sided.{sided}
 use Rattle.theory.specs.Places.{Bounded, Drawn, Spot}
 use Rattle.theory.proofs.Sides.{opp-opp}
@@ -107,6 +107,12 @@ pub flip : {d : Side} {near far pc : List ℕ} {root C : ℕ} {t : Tree} → Dra
     → Drawn (opp d) far near pc root C t
 flip {d} {near} {far} {pc} {root} k =
     record { is = sided-opp d near far pc root ∙ k .is; sound = k .sound; small = k .small }
+
+-- seen from a side, its near array is the one of that side
+pub drawn-sided : (d : Side) {left right pc : List ℕ} {root C : ℕ} {t : Tree} → Drawn lft left right pc root C t
+    → let all = links left right pc root in Drawn d (children d all) (children (opp d) all) pc root C t
+drawn-sided lft k = k
+drawn-sided rgt k = flip k
 
 bounded-links : {C : ℕ} (k : Links) (t : Tree) → Sound C t → C ≤ capacityLimit → k ≡ drawn C t
     → Bounded (k .left) (k .right) (k .pc) (k .root) × (length (k .left) ≡ C)
