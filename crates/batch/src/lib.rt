@@ -1,4 +1,6 @@
 // The batch call: command records of 16 bytes in, answer records of 6 bytes out. The tree is checked once a call.
+#![tactic(auto)]
+
 pub mod types;
 
 ghost use Rattle.std.specs.Prelude.{◌≡◌};

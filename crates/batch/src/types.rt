@@ -2,7 +2,7 @@
 use links::types::Code;
 
 // The batch's code, and how many answers were written.
-#[derive(Drop)]
+#[derive(Clone, Copy)]
 pub struct Batched {
     pub code: Code,
     pub count: u32,

@@ -1,5 +1,7 @@
 // The operations that change the tree, on arrays that are well formed. Each tests what it was given, in the order of
 // the codes, and does its work where nothing is refused.
+#![tactic(auto)]
+
 ghost use Rattle.std.specs.Prelude.{◌≡◌};
 ghost use Rattle.model.specs.Lent.{lent};
 ghost use Rattle.model.specs.WellFormed.{WellFormed};

@@ -1,5 +1,7 @@
 // Ports `clear_recurse` and `clear`. The depth left falls at each call; a well-formed tree is no deeper than
 // links::DEPTH, so that all of it is reached.
+#![tactic(auto)]
+
 ghost use Rattle.std.specs.Prelude.{length};
 ghost use Rattle.model.specs.Limits.{depth_limit};
 ghost use Rattle.theory.specs.Links.{links};

@@ -1,4 +1,6 @@
 // Code keys: the part of a line that is its code, and the key that the code spells.
+#![tactic(auto)]
+
 pub mod types;
 
 ghost use Rattle.std.specs.Prelude.{◌≡◌};

@@ -1,4 +1,6 @@
 // One command record on well-formed arrays: the operation that it asks for, or BadRecord.
+#![tactic(auto)]
+
 ghost use Rattle.std.specs.Prelude.{◌≡◌};
 ghost use Rattle.model.specs.Lent.{lent};
 ghost use Rattle.model.specs.WellFormed.{WellFormed};

@@ -1,4 +1,6 @@
 // Ports `find_internal`, `lower_bound_internal`, `upper_bound_internal`, the place of `insert`, and `entry`.
+#![tactic(auto)]
+
 pub mod types;
 
 ghost use Rattle.std.specs.Prelude.{◌≡◌, ◌≤◌, length};

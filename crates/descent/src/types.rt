@@ -3,7 +3,7 @@ use links::types::Slot;
 
 // A descent down to a missing child: its last node, the last nodes at which it turned right and left, each 0 where
 // there is none, and how many nodes it has looked at.
-#[derive(Drop)]
+#[derive(Clone, Copy)]
 pub struct Path {
     pub last: Slot,
     pub under: Slot,
@@ -12,7 +12,7 @@ pub struct Path {
 }
 
 // The slot that a descent looks for, or 0; its last node; and how many nodes it has looked at.
-#[derive(Drop)]
+#[derive(Clone, Copy)]
 pub struct Met {
     pub slot: Slot,
     pub last: Slot,
@@ -20,27 +20,27 @@ pub struct Met {
 }
 
 // A position: a slot, or 0.
-#[derive(Drop)]
+#[derive(Clone, Copy)]
 pub struct Cursor {
     pub slot: Slot,
 }
 
 // An empty place: the parent, 0 in an empty tree, and on which side of it.
-#[derive(Drop)]
+#[derive(Clone, Copy)]
 pub struct InsertCursor {
     pub parent: Slot,
     pub on_left: bool,
 }
 
 // What is there for a key: a slot that has it, or the empty place where it belongs.
-#[derive(Drop)]
+#[derive(Clone, Copy)]
 pub enum Entry {
     Occupied(Cursor),
     Vacant(InsertCursor),
 }
 
 // An entry, and how many nodes the descent to it has looked at.
-#[derive(Drop)]
+#[derive(Clone, Copy)]
 pub struct Sought {
     pub entry: Entry,
     pub probes: u32,

@@ -1,4 +1,6 @@
 // The program: 2,048 slots that start unlinked, command records from standard input, the answers to standard output.
+#![tactic(auto)]
+
 use libc::{STDIN_FILENO, STDOUT_FILENO};
 
 // The bytes of the answers to a batch.

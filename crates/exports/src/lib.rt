@@ -1,5 +1,7 @@
 // The library for Rust and C: the calls of `index`, `batch` and `codes` under plain names, with numbers for codes and
 // slots.
+#![tactic(auto)]
+
 pub mod batches;
 pub mod changing;
 pub mod lines;

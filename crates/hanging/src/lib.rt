@@ -1,6 +1,8 @@
 // Ports `post_insert`, `insert_left`, `insert_right` and `insert_root`. The two halves of `post_insert` are one
 // function of (near, far), where the parent is the near child of its own; and a slot is hung on the left with
 // (left, right), on the right with the two swapped.
+#![tactic(auto)]
+
 ghost use Rattle.std.specs.Prelude.{◌≤◌, length};
 ghost use Rattle.model.specs.Branch.{pick};
 ghost use Rattle.model.specs.Tree.{lft, rgt};

@@ -1,6 +1,8 @@
 // The library: the twelve single calls over arrays that the caller lends, `entry`, and or_insert with an entry. Each
 // call first checks the arrays, then refuses in the order of the codes, then works; a refused call changes nothing.
 // `cursors` moves a cursor in place; `nodes` has first_child and last_child over link records.
+#![tactic(auto)]
+
 pub mod cursors;
 pub mod nodes;
 pub mod types;

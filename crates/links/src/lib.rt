@@ -1,5 +1,7 @@
 // Ports `Link` and `LinkOps`: the numbers of one slot in the lent arrays. No crate above this one indexes an array.
 // pc is the crate's parent_color: 2 × the parent + the colour, and 0 in an unlinked slot.
+#![tactic(auto)]
+
 pub mod types;
 
 ghost use Rattle.std.specs.Prelude.{◌≡◌, ◌&&◌, ◌≤◌, length};

@@ -1,5 +1,7 @@
 // Ports the loop of `remove`: a place lacks a black node, and the climb makes up for it. The two halves are one
 // function of (near, far), where the place is on the near side of its parent, and its sibling on the far one.
+#![tactic(auto)]
+
 ghost use Rattle.std.specs.Prelude.{length};
 ghost use Rattle.theory.specs.Links.{links};
 ghost use Rattle.theory.specs.Places.{Made, Mirrored};

@@ -1,5 +1,7 @@
 // Placing a slot with its key, on arrays that are well formed, once the slot has been tested: at an empty place, at an
 // entry, in the gap beside a position. A key is stored where its slot has been hung, and nowhere else.
+#![tactic(auto)]
+
 pub mod types;
 
 ghost use Rattle.std.specs.Prelude.{◌≡◌};

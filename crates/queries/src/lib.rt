@@ -1,5 +1,7 @@
 // The operations that only look, on well-formed arrays: `find`, `lower_bound`, `upper_bound`, `next` and `prev` with
 // their refusals, and `entry`.
+#![tactic(auto)]
+
 ghost use Rattle.std.specs.Prelude.{◌≡◌};
 ghost use Rattle.model.specs.Lent.{arrays_of, lent, key_of, tree_of};
 ghost use Rattle.model.specs.WellFormed.{WellFormed};

@@ -1,4 +1,6 @@
 // Command records of 16 bytes and answer records of 6, numbers little endian (01, "Batch bytes and the program").
+#![tactic(auto)]
+
 pub mod types;
 
 ghost use Rattle.std.specs.Prelude.{◌≡◌, [], ◌∷◌, ◌+◌, ◌≤◌, length};

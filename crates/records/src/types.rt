@@ -2,7 +2,7 @@
 use links::types::{Key, Slot};
 
 // A command record's fields, as they stand in its bytes.
-#[derive(Drop)]
+#[derive(Clone, Copy)]
 pub struct Record {
     pub mark: u32,
     pub operation: u32,

@@ -1,4 +1,6 @@
 // The tests of a call, each by itself, and the two ways to answer. A test that passes says Done.
+#![tactic(auto)]
+
 ghost use Rattle.std.specs.Prelude.{◌≤◌, true, false, ◌≡◌, length};
 ghost use Rattle.std.proofs.Math.Option.{some};
 ghost use Rattle.model.specs.Lent.{at};

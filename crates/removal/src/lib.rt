@@ -1,5 +1,7 @@
 // Ports `remove`. The node that leaves its place is the slot itself where that lacks a child, else the next one, which
 // then takes the slot's place.
+#![tactic(auto)]
+
 ghost use Rattle.std.specs.Prelude.{length};
 ghost use Rattle.theory.specs.Links.{links};
 ghost use Rattle.theory.specs.Programs.{detach, finish_remove, remove_one, remove_two, remove_at};

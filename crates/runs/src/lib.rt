@@ -1,4 +1,6 @@
 // The records of a batch on well-formed arrays, one after another, each with its answer.
+#![tactic(auto)]
+
 ghost use Rattle.model.specs.Lent.{lent};
 ghost use Rattle.runs.specs.Runs.{AtPre, AnsweredAt, AllPre, Ran};
 

@@ -1,4 +1,6 @@
 // What the program does between a read and a write: the answers to the records that were read.
+#![tactic(auto)]
+
 ghost use Rattle.model.specs.Lent.{lent};
 ghost use Rattle.serving.specs.Serving.{RespondPre, Responded};
 

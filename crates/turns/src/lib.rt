@@ -1,5 +1,7 @@
 // Ports `rotate_left`, `rotate_right` and `replace_with`. A rotation is one function of (near, far): to the left with
 // (left, right), to the right with the two swapped.
+#![tactic(auto)]
+
 ghost use Rattle.std.specs.Prelude.{length};
 ghost use Rattle.model.specs.Tree.{lft, rgt};
 ghost use Rattle.theory.specs.Links.{links};

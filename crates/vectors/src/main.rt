@@ -1,5 +1,7 @@
 // Replays stored command records on twelve slots that start unlinked, each as a batch of its own, and writes what each
 // leaves: its answer, the root, and the numbers of every slot.
+#![tactic(auto)]
+
 use libc::{STDIN_FILENO, STDOUT_FILENO};
 
 const SLOTS: usize = 12;

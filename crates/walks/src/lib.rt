@@ -1,6 +1,8 @@
 // Ports `first_child`, `last_child`, `next` and `prev`, the last two as a cursor moves: from position 0 they lead to
 // the first slot and to the last. Each pair is one function: of one child array, or of both, where the near one belongs
 // to the side that the walk goes to.
+#![tactic(auto)]
+
 ghost use Rattle.model.specs.Tree.{lft};
 ghost use Rattle.walks.specs.Ends.{EndPre, EndPost, FrontPre, FrontPost, ClimbPre, ClimbPost};
 ghost use Rattle.walks.specs.Steps.{StepPre, StepPost, Position, WalkPre, Walked, Followed, Preceded};

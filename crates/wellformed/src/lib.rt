@@ -1,6 +1,8 @@
 // The whole check: whether lent arrays are well formed, W1 to W6, whatever they hold. A count is that of the missing
 // children of a subtree, one more than its nodes, and 0 where something is wrong; `Quick` of theory has each count as a
 // definition.
+#![tactic(auto)]
+
 pub mod counts;
 pub mod slots;
 pub mod types;

@@ -2,7 +2,7 @@
 use links::types::{Key, Slot};
 
 // A slot's children and key.
-#[derive(Drop)]
+#[derive(Clone, Copy)]
 pub struct Node {
     // Whether the children differ, or are both 0, and the key lies between the two that were asked.
     pub good: bool,
@@ -12,14 +12,14 @@ pub struct Node {
 }
 
 // The number of linked slots, and of unlinked ones with a child.
-#[derive(Drop)]
+#[derive(Clone, Copy)]
 pub struct Tally {
     pub linked: u32,
     pub strays: u32,
 }
 
 // What a child number of a slot names: a red or a black child of it, or neither.
-#[derive(Drop)]
+#[derive(Clone, Copy)]
 pub enum Kin {
     Red,
     Black,

@@ -1,0 +1,7 @@
+use Rattle.links.proofs.Writing.{is_set_parent}
+use Rattle.std.proofs.Common.{rules}
+use Rattle.links.proofs.set_parent.Goals as goal
+
+pub returns : goal.returns
+returns c =
+    search (rules, is_set_parent)
