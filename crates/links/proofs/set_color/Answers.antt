@@ -5,13 +5,11 @@ use Rattle.links.proofs.set_color.Goals as goal
 
 pub overflow_mul-pc : goal.overflow_mul-pc
 overflow_mul-pc c =
-    let pre = c.requires in
-    omega (arith, parent_top _ _ _ pre)
+    omega (arith, parent_top _ _ _ c.requires)
 
 pub overflow_add-pc : goal.overflow_add-pc
 overflow_add-pc c =
-    let pre = c.requires in
-    omega (arith, parent_top _ _ _ pre)
+    omega (arith, parent_top _ _ _ c.requires)
 
 pub returns : goal.returns
 returns c =

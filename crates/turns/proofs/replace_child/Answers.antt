@@ -1,0 +1,15 @@
+use Rattle.turns.proofs.Rotations.{replaced_root, replaced_near, replaced_far}
+use Rattle.std.proofs.Common.{rules}
+use Rattle.turns.proofs.replace_child.Goals as goal
+
+pub returns-then-parent-eq0 : goal.returns-then-parent-eq0
+returns-then-parent-eq0 c =
+    search (rules, replaced_root)
+
+pub returns-then-child-old : goal.returns-then-child-old
+returns-then-child-old c =
+    search (rules, replaced_near)
+
+pub returns-else-child-old : goal.returns-else-child-old
+returns-else-child-old c =
+    search (rules, replaced_far)
