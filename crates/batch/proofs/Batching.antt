@@ -55,22 +55,22 @@ module _ (input buffer : List ℕ) (m : Lent) where
       enough = le-ltb _ _ room
 
       -- 1
-      pub batch_damaged : not passed ≡ true → refused_batch damaged buffer m ≡ batch input buffer m
+      pub batch_damaged : passed ≡ false → refused_batch damaged buffer m ≡ batch input buffer m
       unfolding batch
-      batch_damaged e = rw (right_length, enough, sym is ∙ not-true passed e)
+      batch_damaged e = rw (right_length, enough, sym is ∙ e)
 
       -- the records
-      pub batch_within : not passed ≡ false → AllPre (length input / record_size) input buffer m
+      pub batch_within : passed ≡ true → AllPre (length input / record_size) input buffer m
       batch_within e = record {
-        well = check_sound m (sym is ∙ not-false passed e);
+        well = check_sound m (sym is ∙ e);
         small = omega (arith, ltb-false batch_limit (length input) fits);
         inside = omega arith;
         room = room;
       }
 
-      pub batch_done : {buffer' : List ℕ} {m' : Lent} → not passed ≡ false
+      pub batch_done : {buffer' : List ℕ} {m' : Lent} → passed ≡ true
           → Ran (length input / record_size) input buffer buffer' m m'
           → record { code = done; count = length input / record_size; buffer = buffer'; after = m' }
           ≡ batch input buffer m
       unfolding batch filled records
-      batch_done e ran = rw (right_length, enough, sym is ∙ not-false passed e, ran.after, ran.laid)
+      batch_done e ran = rw (right_length, enough, sym is ∙ e, ran.after, ran.laid)

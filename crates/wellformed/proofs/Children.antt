@@ -2,11 +2,8 @@
 use Prim.Native.Nat.{ℕ, suc, ◌+◌, ◌-◌, ◌/◌, ◌≤◌, ◌<◌}
 use native.Mathlib.Omega.{arith}
 use mathlib.Core.Bool.{true, false, not}
-use mathlib.Core.List.{List, [], ◌∷◌}
-use mathlib.Core.Logic.{⊎_elim}
+use mathlib.Core.List.{List}
 use mathlib.Core.Path.{◌≡◌, refl, ◌∙◌}
-use denote.Enum.Declared.{tag_of}
-use types.Run.{OneOf}
 use Rattle.model.specs.Limits.{depth_limit}
 use Rattle.model.specs.Tree.{Color, red, black}
 use Rattle.model.specs.Lent.{Arrays, arrays_of, capacity}
@@ -17,7 +14,6 @@ use Rattle.wellformed.specs.Checks.{is_black, Kinship, NodeAt, Ready, RedPre, Bl
 use Rattle.wellformed.specs.declared.types.Kin.{Kin}
 use Rattle.wellformed.specs.declared.types.Kin.TheVariants.{Red, Black, Other}
 use Rattle.wellformed.specs.declared.types.Node.{Node}
-use Rattle.wellformed.specs.contracts.types.Kin.{the_type}
 use Rattle.wellformed.proofs.Nodes.{under_bad, under_good}
 
 -- a child of either colour is a slot
@@ -29,9 +25,9 @@ child_ready {l} {r} {p} {k} {s} c child h e =
     record { left = h.left; right = h.right; key = h.key; small = h.small; pos = q.positive; top = q.fits }
 
 -- what the arm for all other variants tells
-pub not_black : (kin : Kin) → OneOf (0 ∷ 2 ∷ []) (tag_of the_type kin) → is_black kin ≡ false
+pub not_black : (kin : Kin) → (kin ≡ Black → ⊥) → is_black kin ≡ false
 not_black Red h = refl
-not_black Black h = absurd (⊎_elim (λ e. omega arith) (λ e. omega arith) h)
+not_black Black h = absurd (h refl)
 not_black Other h = refl
 
 -- ---- under a red slot
@@ -69,7 +65,7 @@ module _ {l r p k : List ℕ} {depth s low high : ℕ} {node : Node} (h : RedNod
         let q : depth / 2 - 1 ≡ (depth - 1) / 2 - 1 = omega (arith, h.pre.odd) in
         rw (q, kind.black, e) is
 
-    pub none_came : (lo hi : ℕ) {x : ℕ} → OneOf (0 ∷ 2 ∷ []) (tag_of the_type kin) → x ≡ 0 →
+    pub none_came : (lo hi : ℕ) {x : ℕ} → (kin ≡ Black → ⊥) → x ≡ 0 →
         RedChild l r p k depth s child lo hi x
     unfolding black_child
     none_came lo hi other is = rw (kind.black, not_black kin other) is

@@ -1,11 +1,11 @@
 -- W1, test by test.
 use Prim.Native.Nat.{ℕ, ◌≤◌, ◌<◌}
-use mathlib.Core.Bool.{Bool, true, false, not, ◌&&◌}
+use mathlib.Core.Bool.{Bool, true, false, ◌&&◌}
 use mathlib.Core.List.{List}
 use mathlib.Core.Path.{◌≡◌, refl, sym, ◌∙◌}
 use lib.Dec.{eqb, leb}
 use lib.ListN.{length}
-use borrow.Author.Tests.{eq-eqb, ne_eqb, le-leb, lt-leb, not-true, not-false}
+use borrow.Author.Tests.{eq-eqb, ne_eqb, le-leb, lt-leb}
 use Rattle.model.specs.Branch.{both}
 use Rattle.model.specs.Limits.{capacity_limit}
 use Rattle.model.specs.Lent.{lent, capacity}
@@ -45,11 +45,11 @@ fits_is l r p k root =
     go true true true true = refl
 
 module _ (l r p k : List ℕ) (root : ℕ) {same : Bool} (e : same ≡ same_lengths l r p k) where
-  pub fits_differ : not same ≡ true → false ≡ fits (lent l r p k root)
-  fits_differ n = sym (fits_is l r p k root ∙ rw (sym e ∙ not-true same n))
+  pub fits_differ : same ≡ false → false ≡ fits (lent l r p k root)
+  fits_differ n = sym (fits_is l r p k root ∙ rw (sym e ∙ n))
 
-  pub fits_long : not same ≡ false → capacity_limit < length p → false ≡ fits (lent l r p k root)
-  fits_long n long = sym (fits_is l r p k root ∙ rw (sym e ∙ not-false same n, lt-leb (length p) capacity_limit long))
+  pub fits_long : same ≡ true → capacity_limit < length p → false ≡ fits (lent l r p k root)
+  fits_long n long = sym (fits_is l r p k root ∙ rw (sym e ∙ n, lt-leb (length p) capacity_limit long))
 
-  pub fits_root : not same ≡ false → length p ≤ capacity_limit → leb root (length p) ≡ fits (lent l r p k root)
-  fits_root n small = sym (fits_is l r p k root ∙ rw (sym e ∙ not-false same n, le-leb (length p) capacity_limit small))
+  pub fits_root : same ≡ true → length p ≤ capacity_limit → leb root (length p) ≡ fits (lent l r p k root)
+  fits_root n small = sym (fits_is l r p k root ∙ rw (sym e ∙ n, le-leb (length p) capacity_limit small))

@@ -1,17 +1,14 @@
 -- The whole tree, and the whole check.
 use Prim.Native.Nat.{ℕ, ◌+◌, ◌*◌, ◌-◌, ◌/◌, ◌≤◌, ◌<◌}
 use native.Mathlib.Omega.{arith}
-use mathlib.Core.Bool.{Bool, true, false, not}
-use mathlib.Core.List.{List, [], ◌∷◌}
+use mathlib.Core.Bool.{Bool, true, false}
+use mathlib.Core.List.{List}
 use mathlib.Core.Path.{◌≡◌, sym, ◌∙◌}
 use lib.Dec.{eqb, leb}
 use lib.ListN.{length, get_or}
-use denote.Enum.Declared.{tag_of}
-use types.Run.{OneOf}
-use borrow.Author.Tests.{eq-eqb, ne_eqb, le-leb, lt-leb, leb-true, not-true, not-false}
+use borrow.Author.Tests.{eq-eqb, ne_eqb, le-leb, lt-leb, leb-true}
 use Rattle.model.specs.Branch.{pick, both}
 use Rattle.model.specs.Limits.{depth_limit}
-use Rattle.model.specs.Tree.{black}
 use Rattle.model.specs.Lent.{arrays_of, lent, at, capacity, key_of}
 use Rattle.model.specs.Check.{check}
 use Rattle.theory.specs.Quick.{black_ends, root_ends, tree_ends, fits, quick_check}
@@ -22,7 +19,6 @@ use Rattle.wellformed.specs.Checks.{highest, Kinship, Descended, SameLengths, Ta
 use Rattle.wellformed.specs.declared.types.Kin.{Kin}
 use Rattle.wellformed.specs.declared.types.Kin.TheVariants.{Black}
 use Rattle.wellformed.specs.declared.types.Tally.{Tally}
-use Rattle.wellformed.specs.contracts.types.Kin.{the_type}
 use Rattle.wellformed.proofs.Children.{not_black}
 
 -- ---- tree_check
@@ -33,7 +29,7 @@ module _ (l r p k : List ℕ) (root : ℕ) where
   tree_none e = rw (eq-eqb root 0 e)
 
   module _ {kin : Kin} (some : root ≡ 0 → ⊥) (kind : Kinship kin p 0 root) where
-    pub tree_other : OneOf (0 ∷ 2 ∷ []) (tag_of the_type kin) → 0 ≡ tree_ends highest (lent l r p k root)
+    pub tree_other : (kin ≡ Black → ⊥) → 0 ≡ tree_ends highest (lent l r p k root)
     unfolding tree_ends
     tree_other other = rw (ne_eqb root 0 some, kind.black, not_black kin other)
 
@@ -56,15 +52,15 @@ module _ (l r p k : List ℕ) (root : ℕ) where
 -- ---- check
 
 module _ (l r p k : List ℕ) (root : ℕ) {fit : Bool} (e : fit ≡ fits (lent l r p k root)) where
-  pub fit_rooted : not fit ≡ false → Rooted l r p k root
+  pub fit_rooted : fit ≡ true → Rooted l r p k root
   unfolding fits capacity
   fit_rooted n =
-      both_true _ _ (sym e ∙ not-false fit n) λ long within.
+      both_true _ _ (sym e ∙ n) λ long within.
       let h = fit_lengths (arrays_of l r p k) long in
       record
       { left = h.left; right = h.right; key = h.key; small = h.small; within = leb-true root (length p) within }
 
-  pub fit_same : not fit ≡ false → SameLengths l r p
+  pub fit_same : fit ≡ true → SameLengths l r p
   fit_same n = let h = fit_rooted n in record { left = h.left; right = h.right; small = h.small }
 
   module _ (wide : (i : ℕ) → get_or k i 0 < 18446744073709551616) where
@@ -72,17 +68,17 @@ module _ (l r p k : List ℕ) (root : ℕ) {fit : Bool} (e : fit ≡ fits (lent 
     unfolding key_of at
     quick = quick_is highest (lent l r p k root) (λ s. omega (arith, wide (s - 1)))
 
-    pub check_unfit : not fit ≡ true → false ≡ check (lent l r p k root)
+    pub check_unfit : fit ≡ false → false ≡ check (lent l r p k root)
     unfolding quick_check both
-    check_unfit n = rw (← quick, ← e, not-true fit n)
+    check_unfit n = rw (← quick, ← e, n)
 
-    module _ {tally : Tally} (n : not fit ≡ false) (t : Tallied l r p tally) where
+    module _ {tally : Tally} (n : fit ≡ true) (t : Tallied l r p tally) where
       pub check_stray : (tally.strays ≡ 0 → ⊥) → false ≡ check (lent l r p k root)
       unfolding quick_check both
-      check_stray some = rw (← quick, ← e, not-false fit n, ← t.strays, ne_eqb tally.strays 0 some)
+      check_stray some = rw (← quick, ← e, n, ← t.strays, ne_eqb tally.strays 0 some)
 
       pub check_ends : {ends : ℕ} → tally.strays ≡ 0 → ends ≡ tree_ends highest (lent l r p k root) →
           eqb ends (tally.linked + 1) ≡ check (lent l r p k root)
       unfolding quick_check both
       check_ends none is =
-          rw (← quick, ← e, not-false fit n, ← t.strays, eq-eqb tally.strays 0 none, ← is, ← t.linked)
+          rw (← quick, ← e, n, ← t.strays, eq-eqb tally.strays 0 none, ← is, ← t.linked)

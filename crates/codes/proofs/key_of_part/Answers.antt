@@ -1,0 +1,39 @@
+use Prim.Native.Nat.{◌-◌}
+use mathlib.Core.Logic.{inl, inr, ⊎_elim}
+use native.Mathlib.Omega.{arith}
+use borrow.Author.Tests.{ltb-true}
+use Rattle.std.proofs.Common.{rules}
+use Rattle.codes.proofs.Keys.{none_yet, one_more, sum_fits, product_fits}
+use Rattle.codes.proofs.Keys.{keyed_bad, keyed_stray, keyed_done}
+use Rattle.codes.proofs.key_of_part.Goals as goal
+
+pub returns-then-part-eq0 : goal.returns-then-part-eq0
+returns-then-part-eq0 c =
+    keyed_bad
+    _
+    (⊎_elim (λ w. inl w.taken) (λ w. inr (inl (omega (arith, ltb-true)))) c.if-part-eq0.branch)
+    c.bad.ensures
+
+pub loop-i-init : goal.loop-i-init
+loop-i-init c =
+    none_yet _
+
+pub returns-in_default : goal.returns-in_default
+returns-in_default c =
+    search (rules, keyed_stray)
+
+pub overflow_mul-sum : goal.overflow_mul-sum
+overflow_mul-sum c =
+    search (rules, product_fits)
+
+pub overflow_add-sum : goal.overflow_add-sum
+overflow_add-sum c =
+    search (rules, sum_fits)
+
+pub loop-i-preserved : goal.loop-i-preserved
+loop-i-preserved c =
+    search (rules, one_more)
+
+pub returns : goal.returns
+returns c =
+    search (rules, keyed_done)

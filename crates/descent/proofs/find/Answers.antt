@@ -1,0 +1,41 @@
+use Prim.Native.Nat.{◌-◌}
+use Rattle.std.proofs.Common.{rules}
+use Rattle.descent.proofs.Keeping.{keep_start, keep_key, keep_left, keep_right, keep_less}
+use Rattle.descent.proofs.Finding.{find_on, found_none, found_here, found_leaf}
+use Rattle.descent.proofs.find.Goals as goal
+
+pub loop-here-init : goal.loop-here-init
+loop-here-init c =
+    keep_start
+
+pub key_of-held-requires : goal.key_of-held-requires
+key_of-held-requires c =
+    search (rules, keep_key)
+
+pub get-first-requires : goal.get-first-requires
+get-first-requires c =
+    search (rules, keep_left)
+
+pub get-second-requires : goal.get-second-requires
+get-second-requires c =
+    search (rules, keep_right)
+
+pub loop-here-smaller : goal.loop-here-smaller
+loop-here-smaller c =
+    search (rules, keep_less)
+
+pub loop-here-preserved : goal.loop-here-preserved
+loop-here-preserved c =
+    search (rules, find_on)
+
+pub returns-after-loop-here : goal.returns-after-loop-here
+returns-after-loop-here c =
+    search (rules, found_none)
+
+pub returns-then-held-k : goal.returns-then-held-k
+returns-then-held-k c =
+    found_here c.requires c.loop-here.invariant c.loop-here-test.true c.key_of-held.ensures c.if-held-k.true
+
+pub returns-then-is_leaf : goal.returns-then-is_leaf
+returns-then-is_leaf c =
+    found_leaf c.requires c.loop-here.invariant c.loop-here-test.true c.key_of-held.ensures c.get-first.ensures c.get-second.ensures c.if-held-k.false c.pick-here.ensures c.is_leaf.ensures c.if-is_leaf.true

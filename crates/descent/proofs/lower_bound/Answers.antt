@@ -1,0 +1,16 @@
+use Rattle.std.proofs.Common.{rules}
+use Rattle.model.specs.Tree.{lft}
+use Rattle.descent.proofs.Bounding.{slope_left, bound_first, bound_included, bound_excluded}
+use Rattle.descent.proofs.lower_bound.Goals as goal
+
+pub edge-requires : goal.edge-requires
+edge-requires c = search (rules, slope_left)
+
+pub returns-in-0 : goal.returns-in-0
+returns-in-0 c = bound_first c.in-0.is c.edge.ensures
+
+pub returns-in-1 : goal.returns-in-1
+returns-in-1 c = bound_included lft c.first_over.ensures c.in-1.is c.path.ensures
+
+pub returns-in_default : goal.returns-in_default
+returns-in_default c = search (rules, bound_excluded)

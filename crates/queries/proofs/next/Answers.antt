@@ -1,0 +1,11 @@
+use Rattle.std.proofs.Common.{rules}
+use Rattle.queries.proofs.Stepping.{step_rightward, step_leftward, next_stepped}
+use Rattle.queries.proofs.next.Goals as goal
+
+pub step-requires : goal.step-requires
+step-requires c =
+    search (rules, step_rightward, step_leftward)
+
+pub returns : goal.returns
+returns c =
+    search (rules, next_stepped)

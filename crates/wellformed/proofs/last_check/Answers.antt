@@ -1,0 +1,19 @@
+use Rattle.theory.specs.Quick.{black_ends}
+use Rattle.wellformed.proofs.Nodes.{under_bad, under_good}
+use Rattle.wellformed.proofs.Tips.{tips_fit}
+use Rattle.wellformed.proofs.last_check.Goals as goal
+
+pub returns-then-not-node : goal.returns-then-not-node
+unfolding black_ends
+returns-then-not-node c =
+    under_bad _ c.node_at-node.ensures _ c.if-not-node.true
+
+pub sum_of-requires : goal.sum_of-requires
+sum_of-requires c =
+    tips_fit _ _ _ _ _ _ _ c.end_check-x.ensures c.end_check-y.ensures
+
+pub returns : goal.returns
+unfolding black_ends
+returns c =
+    under_good _ c.node_at-node.ensures _ c.if-not-node.false c.end_check-x.ensures
+    c.end_check-y.ensures c.sum_of.ensures
