@@ -1,6 +1,5 @@
 -- A record's command by its mark and by the number of its operation. Assumes nothing.
-use Prim.Native.Nat.{ℕ, suc, ◌≤◌, ◌<◌}
-use native.Mathlib.Omega.{arith}
+use Prim.Native.Nat.{ℕ, ◌<◌}
 use mathlib.Core.Path.{◌≡◌, ap, sym, ◌∙◌}
 use mathlib.Core.Logic.{◌≢◌}
 use mathlib.Core.Option.{none}
@@ -13,20 +12,6 @@ use Rattle.model.specs.Batch.{operations, command_of, obey}
 use Rattle.records.specs.Records.{record_in}
 use Rattle.records.specs.declared.types.Record.{Record}
 use Rattle.commands.specs.Commands.{operation_of}
-
--- A number that is none of those of `descend` is 0, and one that is none of those of `visit` is past the last.
-other : {n k : ℕ} → k ≤ n → n ≢ k → suc k ≤ n
-other h e = omega arith
-
-pub before_first : {n : ℕ} → n ≤ 5 → ((((Unit {0} × (n ≢ 1)) × (n ≢ 2)) × (n ≢ 3)) × (n ≢ 4)) × (n ≢ 5) → n ≡ 0
-before_first top others =
-    omega (arith, others.1, others.0.1, others.0.0.1, others.0.0.0.1, others.0.0.0.0.1)
-
-pub past_last : {n : ℕ} → 5 < n
-    → ((((((Unit {0} × (n ≢ 6)) × (n ≢ 7)) × (n ≢ 8)) × (n ≢ 9)) × (n ≢ 10)) × (n ≢ 11)) × (n ≢ 12) → 12 < n
-past_last past others =
-    other (other (other (other (other (other (other past others.0.0.0.0.0.0.1) others.0.0.0.0.0.1)
-    others.0.0.0.0.1) others.0.0.0.1) others.0.0.1) others.0.1) others.1
 
 module _ (c : Record) (m : Lent) where
   -- the number of the operation names its command

@@ -1,9 +1,5 @@
 -- The model tells the code's answers apart: a promise about `code_of` or `told` settles the code or the answer.
-use Prim.Native.Nat.{ℕ}
 use mathlib.Core.Path.{◌≡◌, refl, sym, ap, ◌∙◌}
-use mathlib.Core.List.{List, [], ◌∷◌}
-use denote.Enum.Declared.{tag_of}
-use types.Run.{OneOf, miss}
 use Rattle.model.specs.Answers as model
 use Rattle.links.specs.declared.types.Code.{Code}
 use Rattle.links.specs.declared.types.Code.TheVariants.{Done, Damaged, BadSlot, AlreadyLinked, NotLinked}
@@ -11,7 +7,6 @@ use Rattle.links.specs.declared.types.Code.TheVariants.{OutOfOrder, NullCursor, 
 use Rattle.links.specs.declared.types.Code.TheVariants.{Short, BadCode}
 use Rattle.links.specs.declared.types.Answer.{Answer}
 use Rattle.links.specs.Answers.{code_of, told}
-use Rattle.links.specs.contracts.types.Code.{the_type}
 
 -- the case that stands for a code
 abbrev case_of : model.Code → Code
@@ -58,10 +53,6 @@ answer_of_told a = rw case_of_code
 pub told_one : (a b : Answer) → told a ≡ told b → a ≡ b
 told_one a b e = sym (answer_of_told a) ∙ ap answer_of e ∙ answer_of_told b
 
--- the places of all cases but Done in the enum
-abbrev pub others : List ℕ
-others = 1 ∷ 2 ∷ 3 ∷ 4 ∷ 5 ∷ 6 ∷ 7 ∷ 8 ∷ 9 ∷ 10 ∷ 11 ∷ []
-
--- In the arm of a `match` that takes them all, the code isn't Done.
-pub not_done : (c : Code) → OneOf others (tag_of the_type c) → code_of c ≡ model.done → ⊥
-not_done c k e = miss others 0 tt (rw (code_one c Done e) at k)
+-- In the arm of a `match` that takes all other cases, the code isn't Done.
+pub not_done : (c : Code) → (c ≡ Done → ⊥) → code_of c ≡ model.done → ⊥
+not_done c k e = k (code_one c Done e)

@@ -4,8 +4,6 @@ use mathlib.Core.Bool.{Bool, false}
 use mathlib.Core.List.{List}
 use mathlib.Core.Logic.{⊎_elim}
 use mathlib.Core.Path.{◌≡◌, refl, sym, ap}
-use denote.Enum.Declared.{tag_of}
-use types.Run.{OneOf}
 use Rattle.model.specs.Lent.{Arrays, Lent, at, key_of}
 use Rattle.model.specs.Commands.{Command}
 use Rattle.model.specs.Operations.{operate}
@@ -17,8 +15,7 @@ use Rattle.theory.proofs.Operate.{operate_refused}
 use Rattle.links.specs.declared.types.Code.{Code}
 use Rattle.links.specs.declared.types.Code.TheVariants.{Done}
 use Rattle.links.specs.Answers.{code_of}
-use Rattle.links.specs.contracts.types.Code.{the_type}
-use Rattle.links.proofs.Answers.{others, not_done}
+use Rattle.links.proofs.Answers.{not_done}
 use Rattle.refusals.specs.Tested.{PositionTested, BothTested}
 
 -- In the arm of Done the test has passed.
@@ -26,7 +23,7 @@ pub matched_done : (c : Code) → c ≡ Done → code_of c ≡ done
 matched_done c e = ap code_of e
 
 -- In the arm of all other cases, and in an `else`, it has refused.
-pub matched_other : (c : Code) → OneOf others (tag_of the_type c) → is_done (code_of c) ≡ false
+pub matched_other : (c : Code) → (c ≡ Done → ⊥) → is_done (code_of c) ≡ false
 matched_other c k = ⊎_elim (λ e. absurd (not_done c k e)) (λ e. e) (code_cases (code_of c))
 
 -- A position's test and then test_both are the model's two tests in a row.

@@ -11,5 +11,4 @@ returns-in-Done c =
 
 pub returns-in_default : goal.returns-in_default
 returns-in_default c =
-    let other = not_done c.key_of_part-coded.result.code c.in-Done.keys2 in
-    part_refused _ c.trim-part.ensures c.key_of_part-coded.ensures other
+    part_refused _ c.trim-part.ensures c.key_of_part-coded.ensures (not_done c.key_of_part-coded.result.code c.in_default.not-Done)

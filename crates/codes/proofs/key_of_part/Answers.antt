@@ -1,18 +1,11 @@
-use Prim.Native.Nat.{◌-◌}
 use mathlib.Core.Logic.{inl, inr, ⊎_elim}
-use native.Mathlib.Omega.{arith}
-use borrow.Author.Tests.{ltb-true}
 use Rattle.std.proofs.Common.{rules}
 use Rattle.codes.proofs.Keys.{none_yet, one_more, sum_fits, product_fits}
 use Rattle.codes.proofs.Keys.{keyed_bad, keyed_stray, keyed_done}
 use Rattle.codes.proofs.key_of_part.Goals as goal
 
 pub returns-then-part-eq0 : goal.returns-then-part-eq0
-returns-then-part-eq0 c =
-    keyed_bad
-    _
-    (⊎_elim (λ w. inl w.taken) (λ w. inr (inl (omega (arith, ltb-true)))) c.if-part-eq0.branch)
-    c.bad.ensures
+returns-then-part-eq0 c = keyed_bad _ (⊎_elim inl (λ w. inr (inl w.1)) c.then-part-eq0.either) c.bad.ensures
 
 pub loop-i-init : goal.loop-i-init
 loop-i-init c =

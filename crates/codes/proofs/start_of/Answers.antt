@@ -1,4 +1,3 @@
-use Prim.Native.Nat.{◌-◌}
 use Rattle.std.proofs.Common.{rules}
 use Rattle.codes.proofs.Cutting.{none_passed, pass_space, start_here, start_past}
 use Rattle.codes.proofs.start_of.Goals as goal
