@@ -3,11 +3,10 @@ use Prim.Native.Nat.{ℕ, ◌*◌, ◌/◌, ◌%◌, ◌≤◌, ◌<◌}
 use native.Mathlib.Omega.{arith}
 use mathlib.Core.Path.{◌≡◌, ap, sym, ◌∙◌}
 use mathlib.Core.Logic.{◌≢◌, ◌⊎◌, inl, inr}
-use mathlib.Core.Bool.{Bool, true, false, not, or-true}
+use mathlib.Core.Bool.{Bool, true, false, or-true}
 use mathlib.Core.List.{List}
 use lib.ListN.{length}
-use lib.Dec.{ltb}
-use borrow.Author.Tests.{eq-eqb, ne_eqb, lt-ltb, le-ltb, ltb-false, not-true, not-false}
+use borrow.Author.Tests.{eq-eqb, ne_eqb, lt-ltb, le-ltb}
 use Rattle.model.specs.Limits.{record_size, answer_size, batch_limit}
 use Rattle.model.specs.Lent.{Lent}
 use Rattle.model.specs.Check.{check}
@@ -26,21 +25,21 @@ pub refused_told : {r : Batched} {c : Code} {buffer : List ℕ} {m : Lent} {o : 
 refused_told {buffer = buffer} {m = m} is same = ap (λ r. batch_told r buffer m) is ∙ same
 
 -- the records are few
-pub count_fits : (size : ℕ) → ltb batch_limit size ≡ false → size / record_size < 4294967296
-count_fits size fits = omega (arith, ltb-false batch_limit size fits)
+pub count_fits : (size : ℕ) → size ≤ batch_limit → size / record_size < 4294967296
+count_fits size fits = omega arith
 
 module _ (input buffer : List ℕ) (m : Lent) where
   -- 9
-  pub batch_length : (length input % record_size ≢ 0) ⊎ (ltb batch_limit (length input) ≡ true)
+  pub batch_length : (length input % record_size ≢ 0) ⊎ (batch_limit < length input)
       → refused_batch bad_length buffer m ≡ batch input buffer m
   unfolding batch bad_length_of
   batch_length (inl ragged) = rw (ne_eqb _ _ ragged)
-  batch_length (inr long) = rw (long, or-true)
+  batch_length (inr long) = rw (lt-ltb _ _ long, or-true)
 
-  module _ (whole : length input % record_size ≡ 0) (fits : ltb batch_limit (length input) ≡ false) where
+  module _ (whole : length input % record_size ≡ 0) (fits : length input ≤ batch_limit) where
     right_length : bad_length_of input ≡ false
     unfolding bad_length_of
-    right_length = rw (eq-eqb _ _ whole, fits)
+    right_length = rw (eq-eqb _ _ whole, le-ltb _ _ fits)
 
     -- 10
     pub batch_short : length buffer < answer_size * (length input / record_size)
@@ -63,7 +62,7 @@ module _ (input buffer : List ℕ) (m : Lent) where
       pub batch_within : passed ≡ true → AllPre (length input / record_size) input buffer m
       batch_within e = record {
         well = check_sound m (sym is ∙ e);
-        small = omega (arith, ltb-false batch_limit (length input) fits);
+        small = omega arith;
         inside = omega arith;
         room = room;
       }
