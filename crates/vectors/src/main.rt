@@ -2,44 +2,42 @@
 // leaves: its answer, the root, and the numbers of every slot.
 #![tactic(auto)]
 
-use libc::{STDIN_FILENO, STDOUT_FILENO};
+use std::io;
+use std::io::Write;
 
 const SLOTS: usize = 12;
 
 // Writes the lowest two bytes of a number.
-fn put_half(number: u32) -> bool {
-    io::write_all(
-        STDOUT_FILENO,
-        &[(number % 256) as u8, (number / 256 % 256) as u8],
-    )
+fn put_half<W: Write>(sink: &mut W, number: u32) -> io::Result<()> {
+    sink.write_all(&[(number % 256) as u8, (number / 256 % 256) as u8])
 }
 
 // Writes the bytes of a key.
-fn put_key(key: u64) -> bool {
-    put_half((key % 65536) as u32)
-        && put_half((key / 65536 % 65536) as u32)
-        && put_half((key / 4294967296 % 65536) as u32)
-        && put_half((key / 281474976710656) as u32)
+fn put_key<W: Write>(sink: &mut W, key: u64) -> io::Result<()> {
+    put_half(sink, (key % 65536) as u32)?;
+    put_half(sink, (key / 65536 % 65536) as u32)?;
+    put_half(sink, (key / 4294967296 % 65536) as u32)?;
+    put_half(sink, (key / 281474976710656) as u32)
 }
 
 // Writes the numbers of all slots.
-fn put_slots(
+fn put_slots<W: Write>(
+    sink: &mut W,
     left: &[u32; SLOTS],
     right: &[u32; SLOTS],
     pc: &[u32; SLOTS],
     key: &[u64; SLOTS],
-) -> bool {
-    let mut i = 0usize;
-    while i < SLOTS {
-        if !(put_half(left[i]) && put_half(right[i]) && put_half(pc[i]) && put_key(key[i])) {
-            return false;
-        }
-        i += 1;
+) -> io::Result<()> {
+    for i in 0..SLOTS {
+        put_half(sink, left[i])?;
+        put_half(sink, right[i])?;
+        put_half(sink, pc[i])?;
+        put_key(sink, key[i])?;
     }
-    true
+    Ok(())
 }
 
-fn main() {
+fn main(rt: HostRuntime) -> io::Result<()> {
     let mut left = [0u32; SLOTS];
     let mut right = [0u32; SLOTS];
     let mut pc = [0u32; SLOTS];
@@ -47,11 +45,12 @@ fn main() {
     let mut root = 0u32;
     let mut input = [0u8; records::RECORD];
     let mut answer = [0u8; records::ANSWER];
-    let mut turns = u64::MAX;
-    while turns > 0 {
-        let n = io::read_full(STDIN_FILENO, &mut input);
+    let mut source = rt.stdin();
+    let mut sink = rt.stdout();
+    for _ in 0..u64::MAX {
+        let n = streams::fill(&mut source, &mut input)?;
         if n == 0 {
-            return;
+            break;
         }
         batch::batch(
             &mut left,
@@ -62,15 +61,9 @@ fn main() {
             &input,
             &mut answer,
         );
-        if !io::write_all(STDOUT_FILENO, &answer) {
-            return;
-        }
-        if !put_half(root) {
-            return;
-        }
-        if !put_slots(&left, &right, &pc, &key) {
-            return;
-        }
-        turns -= 1;
+        sink.write_all(&answer)?;
+        put_half(&mut sink, root)?;
+        put_slots(&mut sink, &left, &right, &pc, &key)?;
     }
+    Ok(())
 }
