@@ -10,7 +10,7 @@ use borrow.Author.Tests.{eq-eqb, ne_eqb}
 use Rattle.model.specs.Branch.{pick}
 use Rattle.model.specs.Tree.{lft, Tree, leaf, node, top_of, Frame}
 use Rattle.model.specs.Lent.{at}
-use Rattle.model.specs.Descent.{halt, left_if, landing, descend, path, probes, find_step, find_landing}
+use Rattle.model.specs.Descent.{halt, left_if, landing, descend, path, find_step, find_landing}
 use Rattle.model.specs.Descent.{cursor_of, entry_at, entry_of, entry_for, find_slot}
 use Rattle.theory.proofs.Descents.{probes_way}
 use Rattle.links.specs.Reads.{Got}

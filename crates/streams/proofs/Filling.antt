@@ -51,14 +51,16 @@ module _ (from : ℕ) (buffer got : List ℕ) where
       -- the bytes that came stand behind those that were there
       pub filled : (n done : ℕ) → done ≡ from + n → n ≤ length got → Consumes mid end (take n got)
           → (done ≤ length after) × Consumes before end (take done after)
-      filled n done is fits gave =
-          (omega (arith, same_length, size),
-            subst (Consumes before end) (sym (joined n done is fits)) (Consumes-trans before mid end _ _ had gave))
+      filled n done is fits gave = (
+        omega (arith, same_length, size),
+        subst (Consumes before end) (sym (joined n done is fits)) (Consumes-trans before mid end _ _ had gave),
+      )
 
       -- and where none came, nothing has changed there
       pub kept : (done : ℕ) → done ≡ from → Keeps mid end
           → (done ≤ length after) × Consumes before end (take done after)
-      kept done is keeps =
-          (omega (arith, same_length),
-            rw (is, take-put_mid_below from room buffer got from (le_refl from) within)
-            (Consumes-kept before mid end _ had keeps))
+      kept done is keeps = (
+        omega (arith, same_length),
+        rw (is, take-put_mid_below from room buffer got from (le_refl from) within)
+            (Consumes-kept before mid end _ had keeps),
+      )

@@ -9,7 +9,7 @@ use Rattle.model.specs.Branch.{choose}
 use Rattle.model.specs.Tree.{lft, rgt, Color, red, black, Tree, leaf, node, slots}
 use Rattle.model.specs.Lent.{Arrays, child_of, key_of, color_code}
 use Rattle.model.specs.WellFormed.{Rising}
-use Rattle.model.specs.Check.{Verdict, good, differ, names_red, inspect}
+use Rattle.model.specs.Check.{Verdict, good, names_red, inspect}
 use Rattle.theory.specs.Balance.{tint, Allowed, Calm, Even, blacks, size, height}
 use Rattle.theory.specs.Hangs.{Here, Hangs}
 use Rattle.theory.specs.Checked.{last_key, check_of, asked_for}

@@ -1,7 +1,7 @@
 -- first_child and last_child over link records: on those of a well-formed tree they answer what the walk over the arrays
 -- does, the outermost slot of the tree below the start.
 use Prim.Native.Nat.{ℕ, zero, suc, ◌-◌, ◌≤◌}
-use mathlib.Core.Path.{◌≡◌, refl, sym, ap, ◌∙◌}
+use mathlib.Core.Path.{◌≡◌, refl, ap, ◌∙◌}
 use mathlib.Core.List.{List, [], ◌∷◌}
 use native.Mathlib.Omega.{arith}
 use lib.ListN.{length, get_or}
@@ -12,7 +12,7 @@ use Rattle.model.specs.Tree.{Side, lft, rgt, Color, Tree, leaf, node, opp, nod, 
 use Rattle.model.specs.Lent.{Lent, at, capacity, tree_of}
 use Rattle.model.specs.WellFormed.{WellFormed}
 use Rattle.model.specs.Order.{first_slot}
-use Rattle.model.specs.Ends.{Link, unlinked, link_child, end_from, end_over}
+use Rattle.model.specs.Ends.{unlinked, link_child, end_from, end_over}
 use Rattle.theory.specs.Balance.{height}
 use Rattle.theory.specs.Sound.{Sound}
 use Rattle.theory.specs.Lists.{facing}

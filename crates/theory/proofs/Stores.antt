@@ -9,7 +9,7 @@ use borrow.Author.Tests.{eqb-true, eqb-false, eq-eqb, ne_eqb}
 use Rattle.model.specs.Branch.{pick}
 use Rattle.model.specs.Tree.{Side, lft, rgt, Color, red, black, Tree, leaf, node, opp, nod, top_of, Frame, frame, plug}
 use Rattle.model.specs.Tree.{above}
-use Rattle.model.specs.Lent.{at, color_code, parent_color}
+use Rattle.model.specs.Lent.{color_code, parent_color}
 use Rattle.model.specs.Draw.{Cell, child_cell, pc_cell, same_cell, written, listed, lay}
 use Rattle.theory.specs.Sound.{count, Sound}
 use Rattle.theory.specs.Slots.{put}

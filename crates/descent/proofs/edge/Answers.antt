@@ -1,4 +1,3 @@
-use Prim.Native.Nat.{◌-◌}
 use Rattle.std.proofs.Common.{rules}
 use Rattle.descent.proofs.Sliding.{slide_start, slide_get, slide_less, slide_on, slid}
 use Rattle.descent.proofs.edge.Goals as goal

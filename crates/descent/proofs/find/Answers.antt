@@ -1,4 +1,3 @@
-use Prim.Native.Nat.{◌-◌}
 use Rattle.std.proofs.Common.{rules}
 use Rattle.descent.proofs.Keeping.{keep_start, keep_key, keep_left, keep_right, keep_less}
 use Rattle.descent.proofs.Finding.{find_on, found_none, found_here, found_leaf}

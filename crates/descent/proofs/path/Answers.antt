@@ -1,4 +1,3 @@
-use Prim.Native.Nat.{◌-◌}
 use Rattle.std.proofs.Common.{rules}
 use Rattle.descent.proofs.Keeping.{keep_key, keep_left, keep_right, keep_less}
 use Rattle.descent.proofs.Passing.{pass_start, pass_on, passed, passed_leaf}
