@@ -1,5 +1,5 @@
 //! With the feature `linked`, links the library's archive into this program. It is looked for in LICHENBROOCH_LIB, by
-//! default where `rt staticlib exports` writes it.
+//! default where `scripts/archive` writes it.
 
 use std::env;
 use std::path::PathBuf;

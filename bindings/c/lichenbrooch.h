@@ -1,5 +1,5 @@
 /* Lichenbrooch for C: a verified index for presale codes over arrays that the caller lends. Link with libexports.a,
-   which `rt staticlib exports` writes for x86-64 Linux.
+   which `scripts/archive` writes for x86-64 Linux.
 
    Slots are numbered from 1, at most LICHENBROOCH_CAPACITY of them; slot k is element k - 1 of the arrays left, right,
    parent_color and key, and a root number goes with them. 0 is no slot. Arrays of zeros with root 0 are an empty tree.

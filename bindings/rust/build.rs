@@ -1,4 +1,4 @@
-//! Links the proved library: libexports.a from the folder LICHENBROOCH_LIB, or where `rt staticlib exports` writes it.
+//! Links the proved library: libexports.a from the folder LICHENBROOCH_LIB, or where `scripts/archive` writes it.
 use std::env;
 use std::path::PathBuf;
 use std::process::exit;
@@ -22,7 +22,7 @@ fn main() {
     println!("cargo:rerun-if-changed={}", archive.display());
     if !archive.is_file() {
         let place = archive.display();
-        stop(format!("there is no {place}: run 'rt staticlib exports', or set LICHENBROOCH_LIB to its folder"));
+        stop(format!("there is no {place}: run 'scripts/archive', or set LICHENBROOCH_LIB to its folder"));
     }
     println!("cargo:rustc-link-search=native={}", folder.display());
     println!("cargo:rustc-link-lib=static=exports");

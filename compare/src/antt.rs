@@ -13,16 +13,16 @@ fn code(code: Code) -> &'static str {
     match code {
         Code::Done => "done",
         Code::Damaged => "damaged",
-        Code::BadSlot => "badSlot",
-        Code::AlreadyLinked => "alreadyLinked",
-        Code::NotLinked => "notLinked",
-        Code::OutOfOrder => "outOfOrder",
-        Code::NullCursor => "nullCursor",
+        Code::BadSlot => "bad_slot",
+        Code::AlreadyLinked => "already_linked",
+        Code::NotLinked => "not_linked",
+        Code::OutOfOrder => "out_of_order",
+        Code::NullCursor => "null_cursor",
         Code::Stale => "stale",
-        Code::BadRecord => "badRecord",
-        Code::BadLength => "badLength",
+        Code::BadRecord => "bad_record",
+        Code::BadLength => "bad_length",
         Code::Short => "short",
-        Code::BadCode => "badCode",
+        Code::BadCode => "bad_code",
     }
 }
 
@@ -41,16 +41,16 @@ fn lent(lent: &Lent) -> String {
 fn name(operation: Operation) -> &'static str {
     match operation {
         Operation::Insert => "insert",
-        Operation::OrInsert => "orInsert",
+        Operation::OrInsert => "or_insert",
         Operation::Find => "find",
-        Operation::LowerBound => "lowerBound",
-        Operation::UpperBound => "upperBound",
+        Operation::LowerBound => "lower_bound",
+        Operation::UpperBound => "upper_bound",
         Operation::Remove => "remove",
         Operation::Next => "next",
         Operation::Prev => "prev",
-        Operation::InsertAfter => "insertAfter",
-        Operation::InsertBefore => "insertBefore",
-        Operation::ReplaceWith => "replaceWith",
+        Operation::InsertAfter => "insert_after",
+        Operation::InsertBefore => "insert_before",
+        Operation::ReplaceWith => "replace_with",
         Operation::Clear => "clear",
     }
 }
@@ -95,7 +95,7 @@ pub fn trial(trial: &Trial) -> String {
         Trial::Move { side: at, cursor, lent: m } => format!("move {} {cursor} {}", side(*at), lent(m)),
         Trial::Entry { key, lent: m } => format!("enter {key} {}", lent(m)),
         Trial::OrInsert { entry: e, slot, key, before } => {
-            format!("orInsertAt {} {slot} {key} {}", entry(e), lent(before))
+            format!("or_insert_at {} {slot} {key} {}", entry(e), lent(before))
         }
         Trial::End { side: at, links: l, start } => format!("end {} ({}) {start}", side(*at), links(l)),
         Trial::Line(line) => format!("line ({})", list(line)),
@@ -108,28 +108,28 @@ pub fn trial(trial: &Trial) -> String {
 
 pub fn said(said: &Said) -> String {
     match said {
-        Said::Holds(holds) => format!("ofCheck {holds}"),
+        Said::Holds(holds) => format!("of_check {holds}"),
         Said::Outcome(o) => {
             let Answer { code: c, probes, slot } = o.answer;
-            format!("ofCall (outcome {} {probes} {slot} {})", code(c), lent(&o.after))
+            format!("of_call (outcome {} {probes} {slot} {})", code(c), lent(&o.after))
         }
-        Said::Meant { list: l, keys, halfway } => format!("ofMeaning ({}) ({}) {}", list(l), list(keys), lent(halfway)),
+        Said::Meant { list: l, keys, halfway } => format!("of_meaning ({}) ({}) {}", list(l), list(keys), lent(halfway)),
         Said::Moved { answer: a, cursor } => {
-            format!("ofMove (record {{ answer = {}; cursor = {cursor} }})", answer(a))
+            format!("of_move (record {{ answer = {}; cursor = {cursor} }})", answer(a))
         }
         Said::Entered { code: c, entry: e } => {
-            format!("ofEntry (record {{ code = {}; entry = {} }})", code(*c), entry(e))
+            format!("of_entry (record {{ code = {}; entry = {} }})", code(*c), entry(e))
         }
-        Said::Slot(slot) => format!("ofEnd {slot}"),
+        Said::Slot(slot) => format!("of_end {slot}"),
         Said::Read(r) => {
             let part = list(&r.part);
-            format!("ofLine (record {{ code = {}; key = {}; part = {part} }})", code(r.code), r.key)
+            format!("of_line (record {{ code = {}; key = {}; part = {part} }})", code(r.code), r.key)
         }
         Said::Batched(b) => {
             let (buffer, after) = (list(&b.buffer), lent(&b.after));
             let fields = format!("code = {}; count = {}; buffer = {buffer}; after = {after}", code(b.code), b.count);
-            format!("ofBatch (record {{ {fields} }})")
+            format!("of_batch (record {{ {fields} }})")
         }
-        Said::Bytes(bytes) => format!("ofRun ({})", list(bytes)),
+        Said::Bytes(bytes) => format!("of_run ({})", list(bytes)),
     }
 }

@@ -10,7 +10,7 @@ use crate::trials::{Said, Trial};
 
 const TRIALS: &str = include_str!("../antt/Trials.txt");
 const HEADER: &str = include_str!("../antt/Cases.txt");
-const NUMBERS: &str = "use Prim.Native.Nat.{ℕ}\n";
+const NUMBERS: &str = "use Rattle.std.specs.Prelude.{ℕ}\n";
 const TO_A_FILE: usize = 50;
 
 pub fn write(vectors: &[(Trial, Said)], model: &Path, place: &Path) -> Result<()> {
@@ -41,6 +41,9 @@ fn copy(from: &Path, to: &Path) -> Result<()> {
     fs::create_dir_all(to)?;
     for item in fs::read_dir(from)? {
         let item = item?;
+        if item.file_name() == "out" {
+            continue; // what rt keeps of its checks
+        }
         let target = to.join(item.file_name());
         if item.path().is_dir() {
             copy(&item.path(), &target)?;
@@ -69,11 +72,12 @@ fn write_bundles(model: &Path, specs: &Path, modules: &mut Vec<String>) -> Resul
         let text = fs::read_to_string(model.join(format!("{stem}.antt")))?;
         let names = unfoldable(&text);
         if !names.is_empty() {
-            let used = format!("use Rattle·model.specs.{stem}.{{{}}}\n", names.join(", "));
-            let bundle = unfolding(&format!("in{stem}"), &names.join(" "));
+            let used = format!("use Rattle.model.specs.{stem}.{{{}}}\n", names.join(", "));
+            let name = format!("in_{}", stem.to_lowercase());
+            let bundle = unfolding(&name, &names.join(" "));
             fs::write(specs.join(format!("In{stem}.antt")), NUMBERS.to_string() + &used + &bundle)?;
-            everything += &format!("use Rattle·vectors·specs.specs.In{stem}.{{in{stem}}}\n");
-            bundles.push(format!("in{stem}"));
+            everything += &format!("use Rattle.vectors.specs.In{stem}.{{{name}}}\n");
+            bundles.push(name);
             modules.push(format!("In{stem}"));
         }
     }
