@@ -1,4 +1,4 @@
-use Rattle.std.proofs.Common.{◌∙◌, arith}
+use Rattle.std.proofs.Common.{rules, ◌∙◌, arith}
 use Rattle.wellformed.proofs.Children.{RedNode, red_bad, only_asked, only_came, none_came, red_fits, red_sum}
 use Rattle.wellformed.proofs.Children.{BlackNode, BlackLeft, BlackRight, black_bad, red_asked, black_asked}
 use Rattle.wellformed.proofs.Children.{red_came, black_came, other_came, RedLeft, RedRight}
@@ -25,7 +25,7 @@ black_check-red_check-x-requires t c =
       is = c.node_at-node.ensures;
       good = c.if-not-node.false;
     } in
-    (omega arith, red_asked node c.kin_of-first.ensures c.in-Red.is)
+    (omega arith, red_asked node c.kin_of-first.ensures (search rules))
 
 pub black_check-black_check-x-requires : goal.black_check-black_check-x-requires
 black_check-black_check-x-requires t c =
@@ -36,7 +36,7 @@ black_check-black_check-x-requires t c =
       is = c.node_at-node.ensures;
       good = c.if-not-node.false;
     } in
-    (omega arith, black_asked node c.kin_of-first.ensures c.in-Black.is)
+    (omega arith, black_asked node c.kin_of-first.ensures (search rules))
 
 pub black_check-red_check-y-requires : goal.black_check-red_check-y-requires
 black_check-red_check-y-requires t c =
@@ -47,7 +47,7 @@ black_check-red_check-y-requires t c =
       is = c.node_at-node.ensures;
       good = c.if-not-node.false;
     } in
-    (omega arith, red_asked node c.kin_of-second.ensures c.in-Red-second.is)
+    (omega arith, red_asked node c.kin_of-second.ensures (search rules))
 
 pub black_check-black_check-y-requires : goal.black_check-black_check-y-requires
 black_check-black_check-y-requires t c =
@@ -58,7 +58,7 @@ black_check-black_check-y-requires t c =
       is = c.node_at-node.ensures;
       good = c.if-not-node.false;
     } in
-    (omega arith, black_asked node c.kin_of-second.ensures c.in-Black-second.is)
+    (omega arith, black_asked node c.kin_of-second.ensures (search rules))
 
 pub black_check-sum_of-requires : goal.black_check-sum_of-requires
 black_check-sum_of-requires t c =
@@ -115,13 +115,13 @@ pub red_check-black_check-x-requires : goal.red_check-black_check-x-requires
 red_check-black_check-x-requires t c =
     let node : RedNode _ _ _ _ _ _ _ _ _ =
     record { pre = c.requires; is = c.node_at-node.ensures; good = c.if-not-node.false } in
-    (omega arith, only_asked node c.kin_of-first.ensures c.in-Black.is)
+    (omega arith, only_asked node c.kin_of-first.ensures (search rules))
 
 pub red_check-black_check-y-requires : goal.red_check-black_check-y-requires
 red_check-black_check-y-requires t c =
     let node : RedNode _ _ _ _ _ _ _ _ _ =
     record { pre = c.requires; is = c.node_at-node.ensures; good = c.if-not-node.false } in
-    (omega arith, only_asked node c.kin_of-second.ensures c.in-Black-second.is)
+    (omega arith, only_asked node c.kin_of-second.ensures (search rules))
 
 pub red_check-sum_of-requires : goal.red_check-sum_of-requires
 red_check-sum_of-requires t c =

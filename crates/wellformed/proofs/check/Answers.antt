@@ -1,3 +1,4 @@
+use Rattle.std.proofs.Common.{rules}
 use Rattle.wellformed.proofs.Whole.{fit_rooted, fit_same, check_unfit, check_stray, check_ends}
 use Rattle.wellformed.proofs.check.Goals as goal
 
@@ -12,7 +13,7 @@ tally-t-requires c =
 pub returns-then-t-ne0 : goal.returns-then-t-ne0
 returns-then-t-ne0 c =
     check_stray _ _ _ _ _ c.fits.ensures (λ i. (c.type_inv.key i).fits) c.if-not-fits.false
-    c.tally-t.ensures c.if-t-ne0.true
+    c.tally-t.ensures (search rules)
 
 pub tree_check-ends-requires : goal.tree_check-ends-requires
 tree_check-ends-requires c =
@@ -21,4 +22,4 @@ tree_check-ends-requires c =
 pub returns : goal.returns
 returns c =
     check_ends _ _ _ _ _ c.fits.ensures (λ i. (c.type_inv.key i).fits) c.if-not-fits.false
-    c.tally-t.ensures c.if-t-ne0.false c.tree_check-ends.ensures
+    c.tally-t.ensures (search rules) c.tree_check-ends.ensures
