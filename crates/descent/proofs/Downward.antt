@@ -129,15 +129,15 @@ last_node_empty e empty = rw empty (go e.way)
 -- ---- over both arrays of children
 
 -- it has gone left from here if the test passes, else right
-pub record Stepped (step : ℕ → Step) (t : Tree) (Goes-left : Bool) (next here n : ℕ) (w : List Frame) : Type 0 where
+pub record Stepped (step : ℕ → Step) (t : Tree) (goes_left : Bool) (next here n : ℕ) (w : List Frame) : Type 0 where
   pub color : Color
   pub sibling : Tree
-  pub stands : Downward step t next here n (frame (side_if Goes-left) color here sibling ∷ w)
+  pub stands : Downward step t next here n (frame (side_if goes_left) color here sibling ∷ w)
 
 module _ {left right pc : List ℕ} {root C : ℕ} {t : Tree} (k : Drawn lft left right pc root C t) {step : ℕ → Step} where
-  pub stepped : {here last n next : ℕ} {w : List Frame} (Goes-left : Bool) → Downward step t here last n w → here ≢ 0
-      → step here ≡ left_if Goes-left → next ≡ pick Goes-left (at left here) (at right here)
-      → Stepped step t Goes-left next here (n + 1) w
+  pub stepped : {here last n next : ℕ} {w : List Frame} (goes_left : Bool) → Downward step t here last n w → here ≢ 0
+      → step here ≡ left_if goes_left → next ≡ pick goes_left (at left here) (at right here)
+      → Stepped step t goes_left next here (n + 1) w
   stepped true s some goes is =
       let m = meeting lft s some in
       record { color = m.color; sibling = m.far; stands = moved lft m goes (is ∙ spot_near (met_spot k m)) }
@@ -146,10 +146,10 @@ module _ {left right pc : List ℕ} {root C : ℕ} {t : Tree} (k : Drawn lft lef
       record { color = m.color; sibling = m.far; stands = moved rgt m goes (is ∙ spot_over (met_spot k m)) }
 
 -- below a leaf it finds nothing
-pub none_picked : (Goes-left : Bool) (a b : ℕ) {next : ℕ} → childless a b ≡ true → next ≡ pick Goes-left a b → next ≡ 0
+pub none_picked : (goes_left : Bool) (a b : ℕ) {next : ℕ} → childless a b ≡ true → next ≡ pick goes_left a b → next ≡ 0
 unfolding childless
-none_picked Goes-left a b {next} none is = by-test (eqb a 0)
-    (λ e. let f : eqb b 0 ≡ true = rw e at none in go Goes-left (eqb-true a 0 e) (eqb-true b 0 f) is)
+none_picked goes_left a b {next} none is = by-test (eqb a 0)
+    (λ e. let f : eqb b 0 ≡ true = rw e at none in go goes_left (eqb-true a 0 e) (eqb-true b 0 f) is)
     (λ e. let f : false ≡ true = rw e at none in cc)
   where
     go : (g : Bool) → a ≡ 0 → b ≡ 0 → next ≡ pick g a b → next ≡ 0

@@ -67,13 +67,13 @@ module _ {left right key : List ℕ} {root : ℕ} {step : ℕ → Step} {here la
   keep_few = omega (arith, met_deep v.drawing met, bounds.small)
 
   -- one step down, to the left if the test passes
-  module _ {a b next : ℕ} (Goes-left : Bool) (goes : step here ≡ left_if Goes-left) (got-left : Got left here a)
-      (got-right : Got right here b) (next_is : next ≡ pick Goes-left a b) where
+  module _ {a b next : ℕ} (goes_left : Bool) (goes : step here ≡ left_if goes_left) (got-left : Got left here a)
+      (got-right : Got right here b) (next_is : next ≡ pick goes_left a b) where
     unfoldable pub keep_on : Keeping left right key root step next here (n + 1)
     keep_on = record {
-      each = λ u. let z = stepped u.drawing {next = next} Goes-left (s.each u).stands some goes
+      each = λ u. let z = stepped u.drawing {next = next} goes_left (s.each u).stands some goes
           (rw (← got-left.is, ← got-right.is) next_is) in
-          record { way = frame (side_if Goes-left) z.color here z.sibling ∷ (s.each u).way; stands = z.stands };
+          record { way = frame (side_if goes_left) z.color here z.sibling ∷ (s.each u).way; stands = z.stands };
       top = keep_key.top;
       few = keep_few;
     }

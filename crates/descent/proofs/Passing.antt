@@ -25,13 +25,13 @@ module _ (left right key : List ℕ) (root k : ℕ) (twins : Bool) where
     pub over_is : (v : Searchable left right key root) → over ≡ last_turn lft (keeping.each v).way
 
 -- the last turns after a step from x, where they were y
-turn_under : (Goes-left : Bool) (x y : ℕ)
-    → pick Goes-left y x ≡ choose (same_side rgt (side_if Goes-left)) (λ _. x) (λ _. y)
+turn_under : (goes_left : Bool) (x y : ℕ)
+    → pick goes_left y x ≡ choose (same_side rgt (side_if goes_left)) (λ _. x) (λ _. y)
 turn_under true x y = refl
 turn_under false x y = refl
 
-turn_over_lem : (Goes-left : Bool) (x y : ℕ)
-    → pick Goes-left x y ≡ choose (same_side lft (side_if Goes-left)) (λ _. x) (λ _. y)
+turn_over_lem : (goes_left : Bool) (x y : ℕ)
+    → pick goes_left x y ≡ choose (same_side lft (side_if goes_left)) (λ _. x) (λ _. y)
 turn_over_lem true x y = refl
 turn_over_lem false x y = refl
 
@@ -60,17 +60,17 @@ module _ {left right key : List ℕ} {root k : ℕ} {twins : Bool} where
 
   module _ {here last under over n : ℕ} (v : Searchable left right key root)
       (s : Passing left right key root k twins here last under over n) (some : here ≢ 0)
-      {held a b next under' over' : ℕ} {Goes-left : Bool} (held-is : held ≡ at key here)
-      (got-left : Got left here a) (got-right : Got right here b) (goes : Goes-left ≡ is_over k held twins)
-      (over_is : over' ≡ pick Goes-left here over) (under_is : under' ≡ pick Goes-left under here)
-      (next_is : next ≡ pick Goes-left a b) where
+      {held a b next under' over' : ℕ} {goes_left : Bool} (held-is : held ≡ at key here)
+      (got-left : Got left here a) (got-right : Got right here b) (goes : goes_left ≡ is_over k held twins)
+      (over_is : over' ≡ pick goes_left here over) (under_is : under' ≡ pick goes_left under here)
+      (next_is : next ≡ pick goes_left a b) where
     -- one step down
     pub pass_on : Passing left right key root k twins next here under' over' (n + 1)
     unfolding over_step keep_on
     pass_on = record {
-      keeping = keep_on v s.keeping some Goes-left (rw (goes, held-is)) got-left got-right next_is;
-      under_is = λ u. under_is ∙ rw (s.under_is u) (turn_under Goes-left here _);
-      over_is = λ u. over_is ∙ rw (s.over_is u) (turn_over_lem Goes-left here _);
+      keeping = keep_on v s.keeping some goes_left (rw (goes, held-is)) got-left got-right next_is;
+      under_is = λ u. under_is ∙ rw (s.under_is u) (turn_under goes_left here _);
+      over_is = λ u. over_is ∙ rw (s.over_is u) (turn_over_lem goes_left here _);
     }
 
     -- below a leaf it ends at once
@@ -81,4 +81,4 @@ module _ {left right key : List ℕ} {root k : ℕ} {twins : Bool} where
           over = record { 0 = over' };
           probes = n + 1;
         })
-    passed_leaf is taken = passed pass_on (none_picked Goes-left a b (sym is ∙ taken) next_is)
+    passed_leaf is taken = passed pass_on (none_picked goes_left a b (sym is ∙ taken) next_is)
