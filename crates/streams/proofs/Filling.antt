@@ -1,12 +1,11 @@
 -- What a read into the rest of a buffer does to the part that is filled.
-use Rattle.std.proofs.Common.{◌≡◌, ℕ, ◌+◌, ◌-◌, ◌≤◌, List, ◌++◌, arith, length, take, drop, sym, ap, ◌∙◌, subst, le_refl}
+use Rattle.std.proofs.Common.{◌≡◌, ℕ, ◌+◌, ◌-◌, ◌≤◌, List, ◌++◌, arith, length, take, drop, sym, ap, ◌∙◌, subst}
 use Rattle.std.proofs.Common.{length-append, length-drop, length-take-le, take_all}
 use Rattle.std.proofs.lemmas.List.{take-append-le}
-use Rattle.std.proofs.lemmas.Slice.{take-put_mid_below}
-use Rattle.std.proofs.KnownBytes.{Consumes-trans, Consumes-kept}
+use Rattle.std.proofs.KnownBytes.{Consumes-trans}
 use Rattle.std.proofs.Math.Seq.{take-append-add}
 use Rattle.std.specs.Prelude.{Option}
-use Rattle.std.specs.Io.KnownBytes.{Consumes, Keeps}
+use Rattle.std.specs.Io.KnownBytes.{Consumes}
 use borrow.Rule.Slice.PartMut.{put_mid}
 
 module _ (from : ℕ) (buffer got : List ℕ) where
@@ -41,26 +40,16 @@ module _ (from : ℕ) (buffer got : List ℕ) where
           length-drop from buffer,
         )
 
-    joined : (n done : ℕ) → done ≡ from + n → n ≤ length got → take done after ≡ take from buffer ++ take n got
-    joined n done is fits =
-        let count : done ≡ length (take from buffer) + n = omega (arith, front) in
+    joined : (n : ℕ) → n ≤ length got → take (from + n) after ≡ take from buffer ++ take n got
+    joined n fits =
+        let count : from + n ≡ length (take from buffer) + n = omega (arith, front) in
         ap (λ k. take k after) count ∙ take-append-add (take from buffer) (got ++ rest) n
         ∙ ap (λ l. take from buffer ++ l) (take-append-le n got rest fits)
 
-    module _ (before mid end : Option (List ℕ)) (had : Consumes before mid (take from buffer)) where
-      -- the bytes that came stand behind those that were there
-      pub filled : (n done : ℕ) → done ≡ from + n → n ≤ length got → Consumes mid end (take n got)
-          → (done ≤ length after) × Consumes before end (take done after)
-      filled n done is fits gave = (
-        omega (arith, same_length, size),
-        subst (Consumes before end) (sym (joined n done is fits)) (Consumes-trans before mid end _ _ had gave),
-      )
-
-      -- and where none came, nothing has changed there
-      pub kept : (done : ℕ) → done ≡ from → Keeps mid end
-          → (done ≤ length after) × Consumes before end (take done after)
-      kept done is keeps = (
-        omega (arith, same_length),
-        rw (is, take-put_mid_below from room buffer got from (le_refl from) within)
-            (Consumes-kept before mid end _ had keeps),
-      )
+    -- the bytes that came stand behind those that were there
+    pub filled : (before mid end : Option (List ℕ)) → Consumes before mid (take from buffer) → (n : ℕ) → n ≤ length got
+        → Consumes mid end (take n got) → (from + n ≤ length after) × Consumes before end (take (from + n) after)
+    filled before mid end had n fits gave = (
+      omega (arith, same_length, size),
+      subst (Consumes before end) (sym (joined n fits)) (Consumes-trans before mid end _ _ had gave),
+    )

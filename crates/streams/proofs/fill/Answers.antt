@@ -1,11 +1,7 @@
-use Rattle.streams.proofs.Filling.{filled, kept}
+use Rattle.streams.proofs.Filling.{filled}
 use Rattle.streams.proofs.fill.Goals as goal
-use Rattle.streams.proofs.fill.Goals.{in-Ok, in-Err+else-ne}
 
-pub loop-preserved : goal.loop-preserved
-loop-preserved g c =
-    let had = c.loop.invariant in
-    elim c.match-read.branch [
-      | in-Ok w ↦ filled _ _ _ had.0 c.read.auto.buf _ _ _ had.1 _ _ w.done-is w.in-Ok.ensures.bound.0 w.in-Ok.ensures.bytes.0
-      | in-Err+else-ne w ↦ kept _ _ _ had.0 c.read.auto.buf _ _ _ had.1 _ w.done-is w.in-Err.ensures.bytes
-    ]
+pub loop-done-preserved : goal.loop-done-preserved
+loop-done-preserved g c =
+    let kept = c.loop-done.invariant in
+    filled _ _ _ kept.0 c.read.auto.buf _ _ _ kept.1 _ c.in_ok-n.ensures.bound.0 c.in_ok-n.ensures.bytes.0

@@ -1,9 +1,12 @@
--- What stands at the buffer's start is what the input has lost.
-use Rattle.std.proofs.Common.{◌≤◌, length, take}
+-- What stands at the buffer's start is what the input has lost; the measure is the room that is left.
+use Rattle.std.proofs.Common.{◌≤◌, ◌-◌, length, take}
 use Rattle.std.specs.Io.KnownBytes.{Consumes}
 use Rattle.streams.proofs.fill.Given as goal
 
-abbrev pub invariant-loop : goal.invariant-loop
-invariant-loop g l =
+abbrev pub invariant-loop-done : goal.invariant-loop-done
+invariant-loop-done g l =
     (l.done ≤ length l.buffer)
     × Consumes (g.R.Read.remaining l.initial.input) (g.R.Read.remaining l.input) (take l.done l.buffer)
+
+abbrev pub decreases-loop-done : goal.decreases-loop-done
+decreases-loop-done g l = length l.initial.buffer - l.done
