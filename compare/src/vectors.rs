@@ -1,4 +1,4 @@
-//! Writes a small repository under `target/`: a copy of the model, and a crate that claims of each trial that the
+//! Writes a small repository: a copy of the model, and a crate that claims of each trial that the
 //! model says what 01 and the crate say. The claims are proved by computing.
 
 use std::fs;
