@@ -38,6 +38,10 @@ pub record RedNode (l r p k : List ℕ) (depth s low high : ℕ) (node : Node) :
   pub is : NodeAt l r k s low high node
   pub good : not node.good ≡ false
 
+pub red_node : {l r p k : List ℕ} {depth s low high : ℕ} {node : Node} → RedPre l r p k depth s →
+    NodeAt l r k s low high node → not node.good ≡ false → RedNode l r p k depth s low high node
+red_node pre is good = record { pre = pre; is = is; good = good }
+
 -- the count under a child of it, and under each of the two
 abbrev pub RedChild : (l r p k : List ℕ) (depth s child low high count : ℕ) → Type 0
 RedChild l r p k depth s child low high count =
@@ -94,6 +98,10 @@ pub record BlackNode (l r p k : List ℕ) (depth s low high : ℕ) (node : Node)
   pub deep : 2 < depth
   pub is : NodeAt l r k s low high node
   pub good : not node.good ≡ false
+
+pub black_node : {l r p k : List ℕ} {depth s low high : ℕ} {node : Node} → BlackPre l r p k depth s → 2 < depth →
+    NodeAt l r k s low high node → not node.good ≡ false → BlackNode l r p k depth s low high node
+black_node pre deep is good = record { pre = pre; deep = deep; is = is; good = good }
 
 abbrev pub BlackChild : (l r p k : List ℕ) (depth s child low high count : ℕ) → Type 0
 BlackChild l r p k depth s child low high count =
@@ -158,9 +166,3 @@ pub black_bad : {l r p k : List ℕ} {depth s low high : ℕ} {node : Node} → 
     NodeAt l r k s low high node → not node.good ≡ true → 0 ≡ black_ends (depth / 2 - 1) (arrays_of l r p k) s low high
 unfolding black_ends
 black_bad {p = p} h deep is bad = rw (black_level h deep) (under_bad p is _ bad)
-
--- ---- under the last black slot of every way
-
-pub black_last : (a : Arrays) (s low high : ℕ) {depth sum : ℕ} → depth ≤ 2 → sum ≡ black_ends 0 a s low high →
-    sum ≡ black_ends (depth / 2 - 1) a s low high
-black_last a s low high {depth} shallow e = let q : depth / 2 - 1 ≡ 0 = omega arith in rw q e

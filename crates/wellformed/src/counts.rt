@@ -1,4 +1,5 @@
-// What the check counts before it walks: the black nodes of one way, the linked slots, and the unlinked ones with a child.
+// What the check counts before it walks: the black nodes of one way, the linked slots, and the unlinked ones with a
+// child.
 ghost use Rattle.std.specs.Prelude.{◌≡◌, length};
 ghost use Rattle.wellformed.specs.Checks.{stray, Descended, One, SameLengths, Tallied};
 
