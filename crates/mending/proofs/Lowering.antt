@@ -30,12 +30,12 @@ use Rattle.mending.proofs.Turning.{far_turn_at}
 -- ---- lower_end
 
 -- a red near child, as near_turn wants it
-module _ {d : Side} {near far pc : List ℕ} {root size : ℕ} {outer : Tree} {sibling : ℕ} {parent_color_lem : Color}
+module _ {d : Side} {near far pc : List ℕ} {root size : ℕ} {outer : Tree} {sibling : ℕ} {parent_color : Color}
     {parent : ℕ} {place : Tree} {way : List Frame} {inner : ℕ} (is : inner ≡ at near sibling)
     (tested : red_at pc inner ≡ true) where
   near_turn_by : (color : Color) (inner_near : Tree) (slot : ℕ) (inner_far : Tree)
       → Spot d near far pc root size d color inner_near slot inner_far
-      (frame d black sibling outer ∷ frame (opp d) parent_color_lem parent place ∷ way)
+      (frame d black sibling outer ∷ frame (opp d) parent_color parent place ∷ way)
       → NearTurnPre near far pc root sibling inner
   near_turn_by black inner_near slot inner_far spot =
       absurd (true≢false (sym tested ∙ ap (red_at pc) (is ∙ spot_near (spot_up spot)) ∙ spot_red spot))
@@ -46,7 +46,7 @@ module _ {d : Side} {near far pc : List ℕ} {root size : ℕ} {outer : Tree} {s
     inner_far = inner_far;
     color = black;
     outer = outer;
-    parent_color_lem = parent_color_lem;
+    parent_color = parent_color;
     parent = parent;
     place = place;
     way = way;
@@ -54,10 +54,11 @@ module _ {d : Side} {near far pc : List ℕ} {root size : ℕ} {outer : Tree} {s
   })
 
   near_turn_at : (tree : Tree)
-      → Spot d near far pc root size d black tree sibling outer (frame (opp d) parent_color_lem parent place ∷ way)
+      → Spot d near far pc root size d black tree sibling outer (frame (opp d) parent_color parent place ∷ way)
       → NearTurnPre near far pc root sibling inner
   near_turn_at = by_side d
-      (λ tree. Spot d near far pc root size d black tree sibling outer (frame (opp d) parent_color_lem parent place ∷ way)
+      (λ tree. Spot d near far pc root size d black tree sibling outer
+      (frame (opp d) parent_color parent place ∷ way)
       → NearTurnPre near far pc root sibling inner)
       (λ spot. absurd (omega (arith, red_some pc inner tested, spot_near spot)))
       (λ color inner_near slot inner_far spot.
@@ -194,9 +195,9 @@ module _ {near far pc : List ℕ} {root sibling parent : ℕ} (pre : RedTurnPre 
             record {
               held = record {
                 is = made.is d ∙ ap (λ (z : Links). red_turn d z sibling parent) pre.spot.held.is
-                    ∙ red_turn_drawn d pre.parent_color_lem tree sibling pre.outer parent pre.place pre.way
+                    ∙ red_turn_drawn d pre.parent_color tree sibling pre.outer parent pre.place pre.way
                     sound;
-                sound = red_sound d pre.parent_color_lem tree sibling pre.outer parent pre.place pre.way sound;
+                sound = red_sound d pre.parent_color tree sibling pre.outer parent pre.place pre.way sound;
                 small = pre.spot.held.small;
               };
             }
@@ -229,7 +230,7 @@ module _ {near far pc : List ℕ} {root sibling parent : ℕ} (pre : RedTurnPre 
                   size = pre.size;
                   inner = pre.inner_near;
                   outer = pre.inner_far;
-                  parent_color_lem = red;
+                  parent_color = red;
                   place = pre.place;
                   way = frame pre.side black sibling pre.outer ∷ pre.way;
                   spot = lower;

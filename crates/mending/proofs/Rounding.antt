@@ -20,10 +20,10 @@ use Rattle.mending.specs.Climbs.{SinkAtPre}
 
 -- ---- what lower_end and red_turn want, by the sibling's colour
 
-module _ {d : Side} {near far pc : List ℕ} {root size : ℕ} {outer : Tree} {sibling : ℕ} {parent_color_lem : Color}
+module _ {d : Side} {near far pc : List ℕ} {root size : ℕ} {outer : Tree} {sibling : ℕ} {parent_color : Color}
     {parent : ℕ} {place : Tree} {way : List Frame} where
   lower_end_at : (color : Color) {inner : Tree}
-      → Spot d near far pc root size d color inner sibling outer (frame (opp d) parent_color_lem parent place ∷ way)
+      → Spot d near far pc root size d color inner sibling outer (frame (opp d) parent_color parent place ∷ way)
       → red_at pc sibling ≡ false → LowerEndPre near far pc root sibling parent
   lower_end_at red spot tested = absurd (true≢false (sym (spot_red spot) ∙ tested))
   lower_end_at black {inner} spot tested = record {
@@ -31,18 +31,18 @@ module _ {d : Side} {near far pc : List ℕ} {root size : ℕ} {outer : Tree} {s
     size = size;
     inner = inner;
     outer = outer;
-    parent_color_lem = parent_color_lem;
+    parent_color = parent_color;
     place = place;
     way = way;
     spot = spot;
   }
 
   red_turn_at : (color : Color) (inner : Tree)
-      → Spot d near far pc root size d color inner sibling outer (frame (opp d) parent_color_lem parent place ∷ way)
+      → Spot d near far pc root size d color inner sibling outer (frame (opp d) parent_color parent place ∷ way)
       → Firm d (nod d color inner sibling outer) → red_at pc sibling ≡ true → RedTurnPre near far pc root sibling parent
   red_turn_at black inner spot firm tested = absurd (true≢false (sym tested ∙ spot_red spot))
   red_turn_at red inner spot firm tested = black_by d
-      (λ tree. Spot d near far pc root size d red tree sibling outer (frame (opp d) parent_color_lem parent place ∷ way)
+      (λ tree. Spot d near far pc root size d red tree sibling outer (frame (opp d) parent_color parent place ∷ way)
       → RedTurnPre near far pc root sibling parent)
       (λ inner_near slot inner_far spot. record {
         side = d;
@@ -51,7 +51,7 @@ module _ {d : Side} {near far pc : List ℕ} {root size : ℕ} {outer : Tree} {s
         inner = slot;
         inner_far = inner_far;
         outer = outer;
-        parent_color_lem = parent_color_lem;
+        parent_color = parent_color;
         place = place;
         way = way;
         spot = spot;
@@ -60,22 +60,23 @@ module _ {d : Side} {near far pc : List ℕ} {root size : ℕ} {outer : Tree} {s
 
 -- ---- the sibling of a place on a side, in focus
 
-pub record Beside (d : Side) (near far pc : List ℕ) (root size : ℕ) (side : Side) (parent_color_lem : Color) (parent : ℕ)
+pub record Beside (d : Side) (near far pc : List ℕ) (root size : ℕ) (side : Side) (parent_color : Color)
+    (parent : ℕ)
     (place : Tree) (way : List Frame) (sibling : ℕ) : Type 0 where
   pub color : Color
   pub inner : Tree
   pub outer : Tree
   pub spot : Spot d near far pc root size side color inner sibling outer
-      (frame (opp side) parent_color_lem parent place ∷ way)
+      (frame (opp side) parent_color parent place ∷ way)
   pub firm : Firm side (nod side color inner sibling outer)
 
-pub beside : {d : Side} {near far pc : List ℕ} {root size : ℕ} (side : Side) (parent_color_lem : Color) (parent : ℕ)
+pub beside : {d : Side} {near far pc : List ℕ} {root size : ℕ} (side : Side) (parent_color : Color) (parent : ℕ)
     (place : Tree) (way : List Frame) {sibling : ℕ} (tree : Tree)
-    → Drawn d near far pc root size (plug place (frame side parent_color_lem parent tree ∷ way)) → Firm side tree
-    → sibling ≡ top_of tree → Beside d near far pc root size side parent_color_lem parent place way sibling
-beside {d} {near} {far} {pc} {root} {size} side parent_color_lem parent place way {sibling} = by_side side
-    (λ tree. Drawn d near far pc root size (plug place (frame side parent_color_lem parent tree ∷ way)) → Firm side tree
-    → sibling ≡ top_of tree → Beside d near far pc root size side parent_color_lem parent place way sibling)
+    → Drawn d near far pc root size (plug place (frame side parent_color parent tree ∷ way)) → Firm side tree
+    → sibling ≡ top_of tree → Beside d near far pc root size side parent_color parent place way sibling
+beside {d} {near} {far} {pc} {root} {size} side parent_color parent place way {sibling} = by_side side
+    (λ tree. Drawn d near far pc root size (plug place (frame side parent_color parent tree ∷ way)) → Firm side tree
+    → sibling ≡ top_of tree → Beside d near far pc root size side parent_color parent place way sibling)
     (λ held none is. absurd none)
     (λ color inner slot outer held firm is.
     rw is (record { color = color; inner = inner; outer = outer; spot = spot_beside side held; firm = firm }))

@@ -61,8 +61,8 @@ module _ {near far pc pc₁ pc₂ pc₃ : List ℕ} {root sibling parent color o
 
 -- from the tree: the sibling is its parent's far child
 pub far_turn_at : {d : Side} {near far pc : List ℕ} {root size : ℕ} {color : Color} {inner outer : Tree} {sibling : ℕ}
-    {parent_color_lem : Color} {parent : ℕ} {place : Tree} {way : List Frame}
-    → Spot d near far pc root size d color inner sibling outer (frame (opp d) parent_color_lem parent place ∷ way)
+    {parent_color : Color} {parent : ℕ} {place : Tree} {way : List Frame}
+    → Spot d near far pc root size d color inner sibling outer (frame (opp d) parent_color parent place ∷ way)
     → 0 < at far sibling → FarTurnPre near far pc root sibling parent
 far_turn_at spot some =
     let over = spot_up spot in
@@ -115,10 +115,10 @@ module _ {near far pc : List ℕ} {root sibling inner : ℕ} (pre : NearTurnPre 
         -- the inner slot stands where the sibling was, and that below it on the far side
         upper : Spot pre.side near₃ far₃ pc₃ root₃ pre.size pre.side black pre.inner_near inner
             (nod pre.side red pre.inner_far sibling pre.outer)
-            (frame (opp pre.side) pre.parent_color_lem pre.parent pre.place ∷ pre.way)
+            (frame (opp pre.side) pre.parent_color pre.parent pre.place ∷ pre.way)
         upper =
             let d = pre.side in let inner_near = pre.inner_near in let inner_far = pre.inner_far in
-            let over = frame (opp d) pre.parent_color_lem pre.parent pre.place ∷ pre.way in
+            let over = frame (opp d) pre.parent_color pre.parent pre.place ∷ pre.way in
             let way = frame d pre.color sibling pre.outer ∷ over in
             let sound = pre.spot.held.sound in
             let middle = nod d black inner_near inner inner_far in
@@ -141,7 +141,7 @@ module _ {near far pc : List ℕ} {root sibling inner : ℕ} (pre : NearTurnPre 
 
         lower : Spot pre.side near₃ far₃ pc₃ root₃ pre.size pre.side red pre.inner_far sibling pre.outer
             (frame (opp pre.side) black inner pre.inner_near
-            ∷ frame (opp pre.side) pre.parent_color_lem pre.parent pre.place ∷ pre.way)
+            ∷ frame (opp pre.side) pre.parent_color pre.parent pre.place ∷ pre.way)
         lower = spot_beside pre.side upper.held
 
         pub near_parent : ParentPre pc₃ sibling

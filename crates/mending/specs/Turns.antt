@@ -24,12 +24,12 @@ pub record NearTurnPre (near far pc : List ℕ) (root sibling inner : ℕ) : Typ
   pub inner_far : Tree
   pub color : Color
   pub outer : Tree
-  pub parent_color_lem : Color
+  pub parent_color : Color
   pub parent : ℕ
   pub place : Tree
   pub way : List Frame
   pub spot : Spot side near far pc root size side red inner_near inner inner_far
-      (frame side color sibling outer ∷ frame (opp side) parent_color_lem parent place ∷ way)
+      (frame side color sibling outer ∷ frame (opp side) parent_color parent place ∷ way)
 
 -- lower_end: the sibling is black, and the far child of the parent
 pub record LowerEndPre (near far pc : List ℕ) (root sibling parent : ℕ) : Type 0 where
@@ -37,11 +37,11 @@ pub record LowerEndPre (near far pc : List ℕ) (root sibling parent : ℕ) : Ty
   pub size : ℕ
   pub inner : Tree
   pub outer : Tree
-  pub parent_color_lem : Color
+  pub parent_color : Color
   pub place : Tree
   pub way : List Frame
   pub spot : Spot side near far pc root size side black inner sibling outer
-      (frame (opp side) parent_color_lem parent place ∷ way)
+      (frame (opp side) parent_color parent place ∷ way)
 
 -- red_turn: the sibling is red, the far child of the parent, and has a black near child, the inner slot
 pub record RedTurnPre (near far pc : List ℕ) (root sibling parent : ℕ) : Type 0 where
@@ -51,11 +51,11 @@ pub record RedTurnPre (near far pc : List ℕ) (root sibling parent : ℕ) : Typ
   pub inner : ℕ
   pub inner_far : Tree
   pub outer : Tree
-  pub parent_color_lem : Color
+  pub parent_color : Color
   pub place : Tree
   pub way : List Frame
   pub spot : Spot side near far pc root size side red (nod side black inner_near inner inner_far) sibling outer
-      (frame (opp side) parent_color_lem parent place ∷ way)
+      (frame (opp side) parent_color parent place ∷ way)
 
 -- the new sibling is black, so that lower_end may follow
 pub record RedTurned (near far pc : List ℕ) (root sibling parent : ℕ) (near' far' pc' : List ℕ) (root' new : ℕ)

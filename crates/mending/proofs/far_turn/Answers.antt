@@ -3,8 +3,10 @@ use Rattle.mending.proofs.far_turn.Goals as goal
 
 pub rotate-requires : goal.rotate-requires
 rotate-requires c =
-    far_rotate c.requires c.color-color.ensures c.set_color.ensures c.set_color-2.ensures c.get-outer.ensures c.set_color-3.ensures
+    far_rotate c.requires c.color-color.ensures c.set_color.ensures c.set_color-2.ensures c.get-outer.ensures
+    c.set_color-3.ensures
 
 pub returns : goal.returns
 returns c =
-    far_turned c.requires c.color-color.ensures c.set_color.ensures c.set_color-2.ensures c.get-outer.ensures c.set_color-3.ensures c.rotate.ensures
+    far_turned c.requires c.color-color.ensures c.set_color.ensures c.set_color-2.ensures c.get-outer.ensures
+    c.set_color-3.ensures c.rotate.ensures

@@ -28,11 +28,13 @@ is_red-requires-2 c =
 
 pub near_turn-requires : goal.near_turn-requires
 near_turn-requires c =
-    lower_near c.requires c.get-outer.ensures c.is_red.ensures c.if-is_red.false c.get-inner.ensures c.is_red-2.ensures c.if-is_red-2.true
+    lower_near c.requires c.get-outer.ensures c.is_red.ensures c.if-is_red.false c.get-inner.ensures c.is_red-2.ensures
+    c.if-is_red-2.true
 
 pub returns-then-is_red-2 : goal.returns-then-is_red-2
 returns-then-is_red-2 c =
-    lowered_near c.requires c.get-outer.ensures c.is_red.ensures c.if-is_red.false c.get-inner.ensures c.is_red-2.ensures c.if-is_red-2.true c.near_turn.ensures
+    lowered_near c.requires c.get-outer.ensures c.is_red.ensures c.if-is_red.false c.get-inner.ensures
+    c.is_red-2.ensures c.if-is_red-2.true c.near_turn.ensures
 
 pub set_color-requires : goal.set_color-requires
 set_color-requires c =
@@ -44,4 +46,5 @@ set_color-requires-2 c =
 
 pub returns : goal.returns
 returns c =
-    lowered_none c.requires c.get-outer.ensures c.is_red.ensures c.if-is_red.false c.get-inner.ensures c.is_red-2.ensures c.if-is_red-2.false c.set_color.ensures c.set_color-2.ensures
+    lowered_none c.requires c.get-outer.ensures c.is_red.ensures c.if-is_red.false c.get-inner.ensures
+    c.is_red-2.ensures c.if-is_red-2.false c.set_color.ensures c.set_color-2.ensures

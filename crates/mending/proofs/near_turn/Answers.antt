@@ -26,13 +26,16 @@ parent-parent-requires c =
 
 pub far_turn-requires : goal.far_turn-requires
 far_turn-requires c =
-    near_far c.requires c.set_color.ensures c.set_color-2.ensures c.rotate.ensures c.parent-upper.ensures c.parent-parent.ensures
+    near_far c.requires c.set_color.ensures c.set_color-2.ensures c.rotate.ensures c.parent-upper.ensures
+    c.parent-parent.ensures
 
 pub shape_of-pc : goal.shape_of-pc
 shape_of-pc c =
-    let made = near_turned c.requires c.set_color.ensures c.set_color-2.ensures c.rotate.ensures c.parent-upper.ensures c.parent-parent.ensures c.far_turn.ensures in
+    let made = near_turned c.requires c.set_color.ensures c.set_color-2.ensures c.rotate.ensures c.parent-upper.ensures
+    c.parent-parent.ensures c.far_turn.ensures in
     made.bounded.same_pc ∙ made.same ∙ sym (spot_bounded c.requires.spot).same_pc
 
 pub returns : goal.returns
 returns c =
-    near_turned c.requires c.set_color.ensures c.set_color-2.ensures c.rotate.ensures c.parent-upper.ensures c.parent-parent.ensures c.far_turn.ensures
+    near_turned c.requires c.set_color.ensures c.set_color-2.ensures c.rotate.ensures c.parent-upper.ensures
+    c.parent-parent.ensures c.far_turn.ensures

@@ -11,8 +11,10 @@ returns-then-has_red_child c =
 
 pub returns-then-is_red-2 : goal.returns-then-is_red-2
 returns-then-is_red-2 c =
-    pass_parent c.requires c.is_red.ensures c.if-is_red.false c.has_red_child.ensures c.if-has_red_child.false c.parent-parent.ensures c.is_red-2.ensures c.if-is_red-2.true
+    pass_parent c.requires c.is_red.ensures c.if-is_red.false c.has_red_child.ensures c.if-has_red_child.false
+    c.parent-parent.ensures c.is_red-2.ensures c.if-is_red-2.true
 
 pub returns : goal.returns
 returns c =
-    passed c.requires c.is_red.ensures c.if-is_red.false c.has_red_child.ensures c.if-has_red_child.false c.parent-parent.ensures c.is_red-2.ensures c.if-is_red-2.false c.sibling.ensures
+    passed c.requires c.is_red.ensures c.if-is_red.false c.has_red_child.ensures c.if-has_red_child.false
+    c.parent-parent.ensures c.is_red-2.ensures c.if-is_red-2.false c.sibling.ensures

@@ -7,7 +7,8 @@ returns-then-parent-eq0 c =
 
 pub returns-then-first-slot : goal.returns-then-first-slot
 returns-then-first-slot c =
-    sibling_right c.requires c.parent-parent.ensures c.if-parent-eq0.false c.get-first.ensures c.if-first-slot.true c.get.ensures
+    sibling_right c.requires c.parent-parent.ensures c.if-parent-eq0.false c.get-first.ensures c.if-first-slot.true
+    c.get.ensures
 
 pub returns-else-first-slot : goal.returns-else-first-slot
 returns-else-first-slot c =

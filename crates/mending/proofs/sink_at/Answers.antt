@@ -24,7 +24,8 @@ lower_end-requires-else-is_red c =
 
 pub returns-then-is_red : goal.returns-then-is_red
 returns-then-is_red c =
-    sunk_red c.requires c.is_red.ensures c.if-is_red.true c.red_turn-new.ensures c.parent-above.ensures c.lower_end.ensures
+    sunk_red c.requires c.is_red.ensures c.if-is_red.true c.red_turn-new.ensures c.parent-above.ensures
+    c.lower_end.ensures
 
 pub returns-else-is_red : goal.returns-else-is_red
 returns-else-is_red c =

@@ -23,4 +23,5 @@ returns-then-first-slot c =
 
 pub returns-else-first-slot : goal.returns-else-first-slot
 returns-else-first-slot c =
-    ended_left c.requires.lacking c.parent-parent.ensures c.get-first.ensures c.if-first-slot.false c.sink_at-else-first-slot.ensures
+    ended_left c.requires.lacking c.parent-parent.ensures c.get-first.ensures c.if-first-slot.false
+    c.sink_at-else-first-slot.ensures
