@@ -13,7 +13,8 @@ use Rattle.model.specs.WellFormed.{WellFormed}
 use Rattle.model.specs.Order.{next_in, prev_in}
 use Rattle.model.specs.Hanging.{hang}
 use Rattle.model.specs.Commands.{Command, insert_after, insert_before}
-use Rattle.model.specs.Answers.{Code, Answer, Outcome, outcome, done, out_of_order, is_done, placed_test, then_test, refusal}
+use Rattle.model.specs.Answers.{Code, Answer, Outcome, outcome, done, out_of_order, is_done, placed_test, then_test}
+use Rattle.model.specs.Answers.{refusal}
 use Rattle.model.specs.Operations.{with_placed, accept, operate}
 use Rattle.theory.specs.Between.{both_test, between}
 use Rattle.theory.specs.Lists.{facing, place_next}

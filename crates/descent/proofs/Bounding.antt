@@ -6,7 +6,8 @@ use mathlib.Core.Logic.{◌≢◌}
 use mathlib.Core.Path.{◌≡◌, refl}
 use Rattle.model.specs.Tree.{Side, lft, rgt, Tree, same_side}
 use Rattle.model.specs.Lent.{at}
-use Rattle.model.specs.Descent.{Landing, descend, last_turn, lower_step, lower_landing, lower_slot, upper_step, upper_landing}
+use Rattle.model.specs.Descent.{Landing, descend, last_turn, lower_step, lower_landing, lower_slot, upper_step}
+use Rattle.model.specs.Descent.{upper_landing}
 use Rattle.model.specs.Descent.{upper_slot}
 use Rattle.descent.specs.declared.types.Path.{Path}
 use Rattle.descent.specs.declared.types.Met.{Met}

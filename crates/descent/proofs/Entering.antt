@@ -9,7 +9,8 @@ use lib.Dec.{ltb}
 use borrow.Author.Tests.{eq-eqb, ne_eqb}
 use Rattle.model.specs.Tree.{Side, lft, rgt, Tree, leaf, node, top_of, Frame, frame, plug, above, side_of}
 use Rattle.model.specs.Lent.{at}
-use Rattle.model.specs.Descent.{Step, left_if, Landing, descend, insert_step, insert_landing, occupied, vacant, find_step}
+use Rattle.model.specs.Descent.{Step, left_if, Landing, descend, insert_step, insert_landing, occupied, vacant}
+use Rattle.model.specs.Descent.{find_step}
 use Rattle.model.specs.Descent.{find_landing, entry_at, entry_of, entry_for, find_slot}
 use Rattle.theory.specs.Sound.{Sound}
 use Rattle.theory.proofs.Counts.{slot_low}

@@ -5,7 +5,8 @@ use Rattle.model.specs.Tree.{Side, lft, rgt, Tree}
 use Rattle.model.specs.Lent.{at}
 use Rattle.model.specs.Order.{first_slot}
 use Rattle.model.specs.Descent.{Step, leftward, rightward, left_if, Landing, descend, path, probes, last_turn}
-use Rattle.model.specs.Descent.{lower_landing, lower_slot, upper_landing, upper_slot, find_landing, find_slot, entry_for}
+use Rattle.model.specs.Descent.{lower_landing, lower_slot, upper_landing, upper_slot, find_landing, find_slot}
+use Rattle.model.specs.Descent.{entry_for}
 use Rattle.theory.specs.Places.{Drawn}
 use Rattle.descent.specs.declared.types.Path.{Path}
 use Rattle.descent.specs.declared.types.Met.{Met}

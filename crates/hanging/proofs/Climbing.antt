@@ -104,7 +104,8 @@ module _ {left right pc : List ℕ} {root C : ℕ} {c : Color} {a b : Tree} {x :
   unfolding grand_at
   grand_slot k = rw (spot_parent k) (spot_parent (spot_up k))
 
-  recolor_at_lem : (w : List Frame) (u : ℕ) → Spot lft left right pc root C lft c a x b w → u ≡ red_uncle w → (u ≡ 0 → ⊥)
+  recolor_at_lem : (w : List Frame) (u : ℕ) → Spot lft left right pc root C lft c a x b w → u ≡ red_uncle w
+      → (u ≡ 0 → ⊥)
       → RecolorPre pc x u
   recolor_at_lem w u k i n =
       by_uncle (λ w. Spot lft left right pc root C lft c a x b w → RecolorPre pc x u) w u i n

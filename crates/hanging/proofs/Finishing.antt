@@ -8,7 +8,8 @@ use lib.Dec.{eqb}
 use native.Mathlib.Omega.{arith}
 use borrow.Author.Tests.{eq-eqb, ne_eqb}
 use Rattle.model.specs.Branch.{pick}
-use Rattle.model.specs.Tree.{Side, lft, rgt, Color, red, black, Tree, leaf, node, nod, top_of, is_red, Frame, frame, plug}
+use Rattle.model.specs.Tree.{Side, lft, rgt, Color, red, black, Tree, leaf, node, nod, top_of, is_red, Frame, frame}
+use Rattle.model.specs.Tree.{plug}
 use Rattle.model.specs.Lent.{at}
 use Rattle.model.specs.Hanging.{climb}
 use Rattle.theory.specs.Balance.{Topped}

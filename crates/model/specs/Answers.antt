@@ -10,7 +10,8 @@ use Rattle.model.specs.Commands.{insert_after, insert_before, replace_with, clea
 use Rattle.model.specs.Order.{keeps_order}
 
 pub data Code : Type 0 where
-  done damaged bad_slot already_linked not_linked out_of_order null_cursor stale bad_record bad_length short bad_code : Code
+  done damaged bad_slot already_linked not_linked out_of_order null_cursor stale bad_record bad_length short
+      bad_code : Code
 
 abbrev pub code_number : Code → ℕ
 code_number done = 0

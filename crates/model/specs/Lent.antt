@@ -1,5 +1,6 @@
 -- 01, "Slots and the lent arrays": the numbers that a caller lends, and how a slot is read from them.
-use Rattle.std.specs.Prelude.{ℕ, zero, suc, ◌-◌, ◌*◌, ◌+◌, ◌/◌, ◌%◌, ◌≤◌, ◌<◌, Bool, not, List, get_or, set, length, replicate, eqb}
+use Rattle.std.specs.Prelude.{ℕ, zero, suc, ◌-◌, ◌*◌, ◌+◌, ◌/◌, ◌%◌, ◌≤◌, ◌<◌, Bool, not, List, get_or, set, length}
+use Rattle.std.specs.Prelude.{replicate, eqb}
 use Rattle.model.specs.Branch.{choose}
 use Rattle.model.specs.Limits.{depth_limit}
 use Rattle.model.specs.Tree.{Side, lft, rgt, Color, red, black, Tree, leaf, node}

@@ -106,7 +106,8 @@ module _ {left right pc : List ℕ} {root slot next : ℕ} (pre : TwoPre left ri
           pub two_done : {left' right' pc' : List ℕ} {root' : ℕ}
               → Made (finish_remove (length left₂) (links left₂ right₂ pc₂ root₂) color child sibling) (length left₂)
               left' right' pc' root'
-              → Made (remove_two (length left) (links left right pc root) slot next) (length left) left' right' pc' root'
+              → Made (remove_two (length left) (links left right pc root) slot next)
+              (length left) left' right' pc' root'
           unfolding remove_two
           two_done made = record {
             is = rw (

@@ -74,7 +74,8 @@ module _ (count : ℕ) (input : List ℕ) {m : Lent} (well : WellFormed m)
       let size = length-replicate {A = ℕ} (answer_size * count) 0 in
       ap (λ (o : BatchOutcome). o.buffer) (batch_runs (replicate (answer_size * count) 0) (omega (arith, size)))
       ∙ ap (λ rest. run.bytes ++ rest)
-      (ap (λ n. drop n (replicate (answer_size * count) 0)) (sym size) ∙ drop-length (replicate (answer_size * count) 0))
+      (ap (λ n. drop n (replicate (answer_size * count) 0)) (sym size)
+      ∙ drop-length (replicate (answer_size * count) 0))
       ∙ append-nil run.bytes
 
 -- ---- one turn of the program
@@ -98,7 +99,8 @@ module _ (input : List ℕ) (m : Lent) where
     turn_run : WellFormed m → record_size * count ≤ length input → record_size * count ≤ batch_limit → (n : ℕ)
         → run_batches (suc n) input m
         ≡ (run_records operate count (take (record_size * count) input) m).bytes
-        ++ run_batches n (drop (record_size * count) input) (run_records operate count (take (record_size * count) input) m).after
+        ++ run_batches n (drop (record_size * count) input)
+        (run_records operate count (take (record_size * count) input) m).after
     unfolding join_batch
     turn_run well inside small n = turn_on n ∙ ap₂ ◌++◌ (batch_exact count input well inside small)
         (ap (run_batches n (drop (record_size * count) input))
@@ -118,7 +120,8 @@ size_full input over = go (ltb batch_limit (length input)) refl
     go false e = rw e (omega (arith, ltb-false batch_limit (length input) e))
 
 -- what is left is answered by its length alone
-tail_same : (one other : List ℕ) → length one % record_size ≡ length other % record_size → tail_answer one ≡ tail_answer other
+tail_same : (one other : List ℕ) → length one % record_size ≡ length other % record_size
+    → tail_answer one ≡ tail_answer other
 unfolding tail_answer
 tail_same one other same = rw same
 
@@ -179,7 +182,8 @@ module _ (buffer : List ℕ) (enough : room ≤ length buffer) where
             ap (λ rest. piece_run.bytes ++ rest)
             (tail_same piece (drop (record_size * records piece) piece) (omega (arith, left))
             ∙ sym (turn_last (drop (record_size * records piece) piece) piece_run.after n (omega (arith, left))))
-            ∙ sym (turn_run piece m (records piece) (size_all piece top) some well inside (omega (arith, inside)) (suc n))
+            ∙ sym
+            (turn_run piece m (records piece) (size_all piece top) some well inside (omega (arith, inside)) (suc n))
 
         go : (b : Bool) → ltb (length piece) record_size ≡ b → (n : ℕ) → records piece < suc n
             → piece_run.bytes ++ tail_answer piece ≡ run_batches (suc n) piece m

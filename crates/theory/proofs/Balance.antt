@@ -4,7 +4,8 @@ use mathlib.Core.Path.{◌≡◌, refl, ap, sym, ◌∙◌}
 use mathlib.Core.Bool.{true, false, true≢false}
 use mathlib.Core.List.{List, [], ◌∷◌}
 use native.Mathlib.Omega.{arith}
-use Rattle.model.specs.Tree.{Side, lft, rgt, Color, red, black, Tree, leaf, node, nod, is_red, paint, Frame, frame, plug}
+use Rattle.model.specs.Tree.{Side, lft, rgt, Color, red, black, Tree, leaf, node, nod, is_red, paint, Frame, frame}
+use Rattle.model.specs.Tree.{plug}
 use Rattle.theory.specs.Balance.{tint, Allowed, Calm, dark, blacks, Even, Balanced, Topped}
 
 -- ---- trees

@@ -9,7 +9,8 @@ use borrow.Author.Tests.{leb-true, leb-false, le-leb, le-ltb, lt-ltb, not-true, 
 use Rattle.model.specs.Tree.{Side, lft, rgt, Color, Tree, leaf, node, opp, slots, Frame, plug}
 use Rattle.model.specs.WellFormed.{Rising}
 use Rattle.model.specs.Order.{first_slot, first_with, not_below, not_above, insert_in}
-use Rattle.model.specs.Descent.{Step, leftward, rightward, halt, left_if, descend, last_turn, insert_step, insert_landing}
+use Rattle.model.specs.Descent.{Step, leftward, rightward, halt, left_if, descend, last_turn, insert_step}
+use Rattle.model.specs.Descent.{insert_landing}
 use Rattle.model.specs.Descent.{lower_step, lower_landing, lower_slot, upper_step, upper_landing, upper_slot}
 use Rattle.theory.specs.Lists.{before, after, facing}
 use Rattle.theory.specs.Descents.{Directed, Parted, step_if}
@@ -118,7 +119,8 @@ bound_first d {key} {step} test t directed same rising = go d same
     parts : Parted step w
     parts = parted_landing t directed rising
 
-    go : (d : Side) → ((x : ℕ) → step x ≡ step_if d (test x)) → last_turn d w ≡ first_with test (facing (opp d) (slots t))
+    go : (d : Side) → ((x : ℕ) → step x ≡ step_if d (test x))
+        → last_turn d w ≡ first_with test (facing (opp d) (slots t))
     go lft same =
         last_turn_first lft w
         ∙ sym (rw (slots_landing step t (descend_leaf step t [] (λ x e. left_if_never (test x) (sym (same x) ∙ e))))

@@ -8,7 +8,8 @@ use lib.Dec.{eqb}
 use lib.ListN.{length}
 use borrow.Author.Tests.{ne_eqb}
 use Rattle.model.specs.Branch.{pick}
-use Rattle.model.specs.Tree.{Side, lft, rgt, Color, red, black, Tree, leaf, node, opp, nod, top_of, is_red, Frame, frame}
+use Rattle.model.specs.Tree.{Side, lft, rgt, Color, red, black, Tree, leaf, node, opp, nod, top_of, is_red, Frame}
+use Rattle.model.specs.Tree.{frame}
 use Rattle.model.specs.Tree.{plug, above}
 use Rattle.model.specs.Lent.{color_code}
 use Rattle.model.specs.Hanging.{crown, straighten, turn_over, climb}
@@ -87,7 +88,8 @@ finish_drawn lft rgt (node k l x r) p s cg g u w low h =
 
 -- ---- recolouring
 
-crown_code : {C : ℕ} (t : Tree) (w : List Frame) → Sound C (plug t w) → pick (eqb (above w) 0) 1 0 ≡ color_code (crown w)
+crown_code : {C : ℕ} (t : Tree) (w : List Frame) → Sound C (plug t w)
+    → pick (eqb (above w) 0) 1 0 ≡ color_code (crown w)
 crown_code t [] h = refl
 crown_code t (frame d c p s ∷ w) h = let low = slot_low d c t p s w h in rw (ne_eqb p 0 (λ e. omega arith))
 
@@ -141,7 +143,8 @@ round : {C : ℕ} (n : ℕ) (x : Tree) (d : Side) (p : ℕ) (s : Tree) (e : Side
     (w : List Frame)
     → 1 ≤ top_of x → Sound C (plug x (frame d red p s ∷ frame e c g u ∷ w))
     → let k = drawn C (plug x (frame d red p s ∷ frame e c g u ∷ w)) in
-    post_insert (suc n) k (top_of x) ≡ pick (is_red u) (post_insert n (recolor k p g (top_of u)) g) (finish e k (top_of x) p)
+    post_insert (suc n) k (top_of x) ≡ pick (is_red u) (post_insert n (recolor k p g (top_of u)) g)
+    (finish e k (top_of x) p)
 unfolding post_insert
 round n x d p s e c g u w low h =
     let z = slot_low d red x p s (frame e c g u ∷ w) h in

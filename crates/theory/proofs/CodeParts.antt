@@ -12,7 +12,8 @@ use lib.ListN.{length, get_or, length-map}
 use borrow.Author.Tests.{lt-ltb, le-ltb, le-leb, lt-leb}
 use Rattle.model.specs.Limits.{code_limit}
 use Rattle.model.specs.Answers.{done, bad_code}
-use Rattle.model.specs.Codes.{value_of, is_some, some_or0, all_values, place_value, key_up_to, lowered, is_code, Reading}
+use Rattle.model.specs.Codes.{value_of, is_some, some_or0, all_values, place_value, key_up_to, lowered, is_code}
+use Rattle.model.specs.Codes.{Reading}
 use Rattle.model.specs.Codes.{read_part}
 use Rattle.theory.specs.Spelling.{Character, Spelled, Stray, Good, Bad}
 use Rattle.theory.proofs.CodeValues.{value_character, value_range, value_lowered}
@@ -100,7 +101,8 @@ some_value (some v) e = refl
 
 -- Each character of a code has the value of its place.
 pub value_at : (s : List ℕ) → Good s → (i : ℕ) → i < length s → value_of (get_or s i 0) ≡ some (place_value s i)
-value_at s g i h = rw (place_within s i h) (some_value (value_of (get_or s i 0)) ((value_character _).1 (g.spelled i h)))
+value_at s g i h = rw (place_within s i h)
+    (some_value (value_of (get_or s i 0)) ((value_character _).1 (g.spelled i h)))
 
 -- ---- how it is read
 

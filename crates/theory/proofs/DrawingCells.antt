@@ -43,7 +43,8 @@ written_none above (node c l x r) b e =
     )
 
 own_only : (above : ℕ) (c : Color) (l : Tree) (x : ℕ) (r : Tree) (b : Cell) → x ≡ slot_of b →
-    only (child_cell lft x) b (top_of l) + (only (child_cell rgt x) b (top_of r) + only (pc_cell x) b (parent_color above c))
+    only (child_cell lft x) b (top_of l)
+    + (only (child_cell rgt x) b (top_of r) + only (pc_cell x) b (parent_color above c))
     ≡ own_number above c l r b
 unfolding only same_cell
 own_only above c l x r (child_cell lft s) e = rw (eq-eqb x s e) (omega arith)

@@ -17,8 +17,10 @@ use Rattle.theory.proofs.DrawingCells.{written_top, written_side}
 module _ (a : Arrays) where
   own_number_lem : (p s : ℕ) (c : Color) (l : Tree) (x : ℕ) (r : Tree) (b : Cell) → x ≡ slot_of b →
       Hangs a p s (node c l x r) → number_at a b ≡ own_number p c l r b
-  own_number_lem p s c l x r (child_cell lft y) e h = ap (child_of lft a) (sym e) ∙ hangs_top a x (child_of lft a x) l h.1
-  own_number_lem p s c l x r (child_cell rgt y) e h = ap (child_of rgt a) (sym e) ∙ hangs_top a x (child_of rgt a x) r h.2
+  own_number_lem p s c l x r (child_cell lft y) e h = ap (child_of lft a) (sym e)
+      ∙ hangs_top a x (child_of lft a x) l h.1
+  own_number_lem p s c l x r (child_cell rgt y) e h = ap (child_of rgt a) (sym e)
+      ∙ hangs_top a x (child_of rgt a x) r h.2
   own_number_lem p s c l x r (pc_cell y) e h = ap (pc_of a) (sym e) ∙ h.0.marked
 
   -- where a tree hangs, the cells of its slots hold what it writes

@@ -1,5 +1,5 @@
--- Where the commands of demand 3 start: empty arrays have as many slots as asked for, hold no slot, are well formed, and
--- the check accepts them.
+-- Where the commands of demand 3 start: empty arrays have as many slots as asked for, hold no slot, are well formed,
+-- and the check accepts them.
 use Prim.Native.Nat.{ℕ, ◌-◌, ◌≤◌, ◌<◌}
 use native.Mathlib.Omega.{arith}
 use mathlib.Core.Bool.{true}

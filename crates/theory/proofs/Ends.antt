@@ -1,5 +1,5 @@
--- first_child and last_child over link records: on those of a well-formed tree they answer what the walk over the arrays
--- does, the outermost slot of the tree below the start.
+-- first_child and last_child over link records: on those of a well-formed tree they answer what the walk over the
+-- arrays does, the outermost slot of the tree below the start.
 use Prim.Native.Nat.{ℕ, zero, suc, ◌-◌, ◌≤◌}
 use mathlib.Core.Path.{◌≡◌, refl, ap, ◌∙◌}
 use mathlib.Core.List.{List, [], ◌∷◌}
@@ -65,7 +65,8 @@ module _ {C : ℕ} (d : Side) (k : Links)
 
   -- one node more
   step : (n s : ℕ) → s ≤ C
-      → end_from d (suc n) (records_of k) s ≡ pick (eqb (child_in d k s) 0) s (end_from d n (records_of k) (child_in d k s))
+      → end_from d (suc n) (records_of k) s ≡ pick (eqb (child_in d k s) 0) s
+      (end_from d n (records_of k) (child_in d k s))
   unfolding end_from
   step n s high = by-test (eqb (child_in d k s) 0)
       (λ e. rw (records_length, le-ltb C s high, record_child s, e))

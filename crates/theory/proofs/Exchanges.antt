@@ -39,7 +39,8 @@ replaced_slots p s t sound = go (focus p t []) refl
 -- the first node of a tree lies above the empty place at its left end
 first_of_end : (c : Color) (l : Tree) (x : ℕ) (r : Tree) (w : List Frame)
     → end_place lft (node c l x r) w
-    ≡ frame lft (first_of c l x r w).color (first_of c l x r w).slot (first_of c l x r w).right ∷ (first_of c l x r w).way
+    ≡ frame lft (first_of c l x r w).color (first_of c l x r w).slot (first_of c l x r w).right
+    ∷ (first_of c l x r w).way
 first_of_end c leaf x r w = refl
 first_of_end c (node k a y b) x r w = first_of_end k a y b (frame lft c x r ∷ w)
 

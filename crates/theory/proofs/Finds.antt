@@ -14,7 +14,8 @@ use Rattle.model.specs.WellFormed.{Rising}
 use Rattle.model.specs.Commands.{find}
 use Rattle.model.specs.Order.{holds, Holding, Lacking, Told}
 use Rattle.model.specs.Answers.{same_entry}
-use Rattle.model.specs.Descent.{leftward, rightward, halt, left_if, insert_step, insert_landing, find_step, find_landing}
+use Rattle.model.specs.Descent.{leftward, rightward, halt, left_if, insert_step, insert_landing, find_step}
+use Rattle.model.specs.Descent.{find_landing}
 use Rattle.model.specs.Descent.{find_slot, Entry, occupied, vacant, entry_at, entry_of, entry_for}
 use Rattle.theory.specs.Sound.{Sound}
 use Rattle.theory.specs.Lists.{before}

@@ -11,7 +11,8 @@ use Rattle.model.specs.Lent.{Lent, capacity, key_of}
 use Rattle.model.specs.Commands.{Command, insert, or_insert, find, lower_bound, upper_bound, remove, next, prev}
 use Rattle.model.specs.Commands.{insert_after, insert_before, replace_with, clear}
 use Rattle.model.specs.Order.{next_in, prev_in, keeps_order}
-use Rattle.model.specs.Answers.{Code, done, out_of_order, refused, is_done, kind_test, position_test, slot_test, placed_test}
+use Rattle.model.specs.Answers.{Code, done, out_of_order, refused, is_done, kind_test, position_test, slot_test}
+use Rattle.model.specs.Answers.{placed_test}
 use Rattle.model.specs.Answers.{order_test, then_test, refusal, unless_refused}
 use Rattle.model.specs.Operations.{accept, accepted, operate}
 use Rattle.theory.specs.Holds.{Holds}

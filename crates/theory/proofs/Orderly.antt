@@ -10,7 +10,8 @@ use borrow.Author.Tests.{ne_eqb}
 use Rattle.model.specs.Tree.{lft, Tree, slots}
 use Rattle.model.specs.WellFormed.{Rising}
 use Rattle.model.specs.Commands.{insert_after, insert_before, replace_with}
-use Rattle.model.specs.Order.{first_slot, next_in, prev_in, exchange, after_in, before_in, list_after, stored, key_after}
+use Rattle.model.specs.Order.{first_slot, next_in, prev_in, exchange, after_in, before_in, list_after, stored}
+use Rattle.model.specs.Order.{key_after}
 use Rattle.model.specs.Order.{rises_from, keeps_order}
 use Rattle.theory.specs.Checked.{last_key}
 use Rattle.theory.specs.Sound.{Sound}

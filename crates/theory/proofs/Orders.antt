@@ -72,7 +72,8 @@ pub order_test_rising : (c : Command) (m : Lent) → Fresh c (slots (tree_of m))
     → Rising (key_of m.arrays) 0 (slots (tree_of m)) → order_test c m ≡ done
     → Rising (key_after (key_of m.arrays) c (slots (tree_of m))) 0 (list_after (key_of m.arrays) c (slots (tree_of m)))
 unfolding placed_test keeps_order
-order_test_rising c m fresh r e = rises_rising (key_after key c L) 0 (list_after key c L) (go (keeps_order key c L) refl)
+order_test_rising c m fresh r e = rises_rising (key_after key c L) 0 (list_after key c L)
+    (go (keeps_order key c L) refl)
   where
     key : ℕ → ℕ
     key = key_of m.arrays

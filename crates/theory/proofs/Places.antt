@@ -29,7 +29,8 @@ use Rattle.theory.proofs.Sided.{sided_opp, sided_near, sided_far, sided_parent, 
 -- ---- bounds of a drawing
 
 -- what holds of every value, and of 0, holds of every entry of the list
-listed_by : (P : ℕ → Type 0) → P 0 → (C s : ℕ) (f : ℕ → ℕ) → ((x : ℕ) → P (f x)) → (i : ℕ) → P (get_or (listed C s f) i 0)
+listed_by : (P : ℕ → Type 0) → P 0 → (C s : ℕ) (f : ℕ → ℕ) → ((x : ℕ) → P (f x)) → (i : ℕ)
+    → P (get_or (listed C s f) i 0)
 listed_by P none zero s f each i = none
 listed_by P none (suc C) s f each zero = each s
 listed_by P none (suc C) s f each (suc i) = listed_by P none C (suc s) f each i

@@ -35,7 +35,8 @@ rises_later key s k (y ∷ B) fresh some rising =
 -- along what comes before it they rise anyway, so only the last of it counts
 rises_earlier : (key : ℕ → ℕ) (n s k : ℕ) (A B : List ℕ) → ¬ Memᴰ s A → Rising key n A
     → rises_from n (stored s k key) (A ++ s ∷ B) ≡ (leb (last_key key n A) k && rises_from k (stored s k key) B)
-rises_earlier key n s k [] B fresh rising = rw (stored_same s k key) (and_if (leb n k) (rises_from k (stored s k key) B))
+rises_earlier key n s k [] B fresh rising = rw (stored_same s k key)
+    (and_if (leb n k) (rises_from k (stored s k key) B))
   where
     and_if : (a b : Bool) → choose a (λ _. b) (λ _. false) ≡ (a && b)
     and_if true b = refl

@@ -91,7 +91,8 @@ pub place_next_at : {C : ℕ} (d : Side) (c : Color) (near : Tree) (p : ℕ) (fa
     → Sound C (plug (nod d c near p far) w)
     → place_next d p (plug (nod d c near p far) w) ≡ end_place (opp d) near (frame d c p far ∷ w)
 unfolding place_next
-place_next_at d c leaf p far w sound = rw (lacks_child_at d c leaf p far w sound) (place_beside_at d c leaf p far w sound)
+place_next_at d c leaf p far w sound = rw (lacks_child_at d c leaf p far w sound)
+    (place_beside_at d c leaf p far w sound)
 place_next_at d c (node k a y b) p far w sound =
     rw (
       lacks_child_at d c (node k a y b) p far w sound,

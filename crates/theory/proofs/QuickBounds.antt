@@ -62,7 +62,8 @@ module _ (a : Arrays) where
         let small : 4 ^ n ≤ 4 ^ (depth_limit / 2 - 1) = pow-le-pow_right (omega arith) few in
         omega (arith, black_small n s low high)
 
-    pub black_child_fits : (p child low high : ℕ) → black_child a (black_ends n a) p child low high ≤ 4 ^ (depth_limit / 2)
+    pub black_child_fits : (p child low high : ℕ)
+        → black_child a (black_ends n a) p child low high ≤ 4 ^ (depth_limit / 2)
     black_child_fits = black_child_small (4 ^ (depth_limit / 2)) (black_ends n a) few_small
 
     pub any_child_fits : (p child low high : ℕ) →

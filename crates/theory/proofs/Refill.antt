@@ -71,7 +71,8 @@ module _ (P : Tree → Type 0) (d : Side) (c : Color) (t : Tree) (q : ℕ) (s : 
 
 -- a red sibling comes up, and its near child is the sibling then
 pub refill_red : (t : Tree) (d : Side) (c : Color) (q : ℕ) (near : Tree) (s : ℕ) (far : Tree) (up : List Frame)
-    → refill t (frame d c q (nod d red near s far) ∷ up) ≡ below_black d red t q near (frame d black s far ∷ up) (λ u. u)
+    → refill t (frame d c q (nod d red near s far) ∷ up)
+    ≡ below_black d red t q near (frame d black s far ∷ up) (λ u. u)
 unfolding refill below_red
 refill_red t d c q near s far up = rw (child_near d red near s far, child_far d red near s far)
 

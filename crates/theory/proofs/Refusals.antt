@@ -14,7 +14,8 @@ use Rattle.model.specs.Descent.{Entry, entry_for}
 use Rattle.model.specs.Commands.{Command, insert, or_insert, find, lower_bound, upper_bound, remove, next, prev}
 use Rattle.model.specs.Commands.{insert_after, insert_before, replace_with, clear, fields_of}
 use Rattle.model.specs.Order.{list_after, key_after, keeps_order}
-use Rattle.model.specs.Answers.{Code, done, out_of_order, stale, kind_test, position_test, slot_test, same_entry, stale_test}
+use Rattle.model.specs.Answers.{Code, done, out_of_order, stale, kind_test, position_test, slot_test, same_entry}
+use Rattle.model.specs.Answers.{stale_test}
 use Rattle.model.specs.Answers.{placed_test, order_test, then_test, refusal, entry_refusal}
 use Rattle.model.specs.Operations.{accepted}
 use Rattle.model.specs.Refusals.{Row, row, Gives, position_rows, slot_rows, order_row, record_rows}
@@ -171,7 +172,8 @@ module _ {m : Lent} (h : Holds m (tree_of m)) where
         (row stale (e ≢ entry_for (key_of m.arrays) k (tree_of m)) ∷ order_row (or_insert s k) m ∷ []))
         (slot_test (some s) m.arrays) (stale_test e k m)
         (slot_decides (some s) m.arrays
-        (row stale (e ≢ entry_for (key_of m.arrays) k (tree_of m)) ∷ order_row (or_insert s k) m ∷ []) (stale_test e k m)
+        (row stale (e ≢ entry_for (key_of m.arrays) k (tree_of m)) ∷ order_row (or_insert s k) m ∷ [])
+        (stale_test e k m)
         stale_gives)
 
   -- ---- what a command that is not refused has shown

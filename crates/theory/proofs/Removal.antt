@@ -6,7 +6,8 @@ use mathlib.Core.List.{List, [], ◌∷◌, ◌++◌}
 use native.Mathlib.Omega.{arith}
 use Rattle.model.specs.Tree.{Side, lft, rgt, Color, red, black, Tree, leaf, node, opp, nod, top_of, child_tree, is_red}
 use Rattle.model.specs.Tree.{paint, paint_child, rotate, slots, Frame, frame, plug}
-use Rattle.model.specs.Removal.{spliced, spliced_tree, red_child, turn_inner, turn_last, root_or_red, below_black, below_red}
+use Rattle.model.specs.Removal.{spliced, spliced_tree, red_child, turn_inner, turn_last, root_or_red, below_black}
+use Rattle.model.specs.Removal.{below_red}
 use Rattle.model.specs.Removal.{refill, mend, mend_splice, take_out, focus_on, first_of}
 use Rattle.model.specs.Shape.{shape, TurnedAtMost}
 use Rattle.theory.specs.Sound.{one, count, Sound}

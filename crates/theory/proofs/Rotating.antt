@@ -92,7 +92,8 @@ module _ {C : ℕ} (d : Side) (cx : Color) (a : Tree) (x : ℕ) (cy : Color) (b 
         read_pc d cy b y c to_y h,
       )
 
-  bal₃ : (s : Cell) → f₃ s + only (pc_cell y) s (parent_color x cy) ≡ f₂ s + only (pc_cell y) s (parent_color (above w) cy)
+  bal₃ : (s : Cell) → f₃ s + only (pc_cell y) s (parent_color x cy)
+      ≡ f₂ s + only (pc_cell y) s (parent_color (above w) cy)
   bal₃ s = update_bal f₂ (pc_cell y) s (parent_color x cy) (parent_color (above w) cy) old_y
 
   -- nothing has changed at the parent of the place yet
@@ -175,7 +176,8 @@ module _ {C : ℕ} (d : Side) (cx : Color) (a : Tree) (x : ℕ) (cy : Color) (b 
         only_pc d y x x,
       )
 
-  bal₆ : (s : Cell) → f₆ s + only (pc_cell x) s (parent_color (above w) cx) ≡ f₅ s + only (pc_cell x) s (parent_color y cx)
+  bal₆ : (s : Cell) → f₆ s + only (pc_cell x) s (parent_color (above w) cx)
+      ≡ f₅ s + only (pc_cell x) s (parent_color y cx)
   bal₆ s = update_bal f₅ (pc_cell x) s (parent_color (above w) cx) (parent_color y cx) old_x
 
   total : (s : Cell) → f₆ s ≡ written 0 (plug after w) s

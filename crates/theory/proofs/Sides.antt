@@ -33,6 +33,7 @@ pub child_near : (d : Side) (c : Color) (near : Tree) (x : ℕ) (far : Tree) →
 child_near lft c near x far = refl
 child_near rgt c near x far = refl
 
-pub child_far : (d : Side) (c : Color) (near : Tree) (x : ℕ) (far : Tree) → child_tree (opp d) (nod d c near x far) ≡ far
+pub child_far : (d : Side) (c : Color) (near : Tree) (x : ℕ) (far : Tree)
+    → child_tree (opp d) (nod d c near x far) ≡ far
 child_far lft c near x far = refl
 child_far rgt c near x far = refl

@@ -10,7 +10,8 @@ use lib.Dec.{T, eqb, leb, ltb}
 use borrow.Author.Tests.{ltb-true, ltb-false, leb-true, leb-false, eqb-true, eqb-false}
 use Rattle.model.specs.Branch.{choose}
 use Rattle.model.specs.Lent.{Arrays, Linked, capacity, is_linked}
-use Rattle.model.specs.Answers.{Code, done, damaged, bad_slot, already_linked, not_linked, out_of_order, null_cursor, stale}
+use Rattle.model.specs.Answers.{Code, done, damaged, bad_slot, already_linked, not_linked, out_of_order, null_cursor}
+use Rattle.model.specs.Answers.{stale}
 use Rattle.model.specs.Answers.{bad_record, bad_length, short, bad_code, is_done, kind_test, position_test, slot_test}
 use Rattle.model.specs.Answers.{then_test}
 use Rattle.model.specs.Refusals.{Row, row, Gives, Named, position_rows, slot_rows}
@@ -79,7 +80,8 @@ position_end needed p a = large (ltb (capacity a) p) refl
 
     zero : (b : Bool) → eqb p 0 ≡ b → (n : Bool) → needed ≡ n → p ≤ capacity a
         → PositionEnd needed p a
-        (choose b (λ _. choose n (λ _. null_cursor) (λ _. done)) λ _. choose (is_linked a p) (λ _. done) (λ _. not_linked))
+        (choose b (λ _. choose n (λ _. null_cursor) (λ _. done))
+        λ _. choose (is_linked a p) (λ _. done) (λ _. not_linked))
     zero true e true f high = null (eqb-true p 0 e) (rw f tt) refl
     zero true e false f high = passed (inl (eqb-true p 0 e, f)) high refl
     zero false e n f high =
@@ -122,7 +124,8 @@ position_decides needed (some p) a rest after g = go (position_test needed (some
 pub position_done : (needed : Bool) (position : Option ℕ) (a : Arrays) → position_test needed position a ≡ done
     → PositionFits needed position a
 position_done needed none a e p f = clash (cc)
-position_done needed (some p) a e q f = rw (some_is f) (go (position_test needed (some p) a) e (position_end needed p a))
+position_done needed (some p) a e q f = rw (some_is f)
+    (go (position_test needed (some p) a) e (position_end needed p a))
   where
     go : (test : Code) → test ≡ done → PositionEnd needed p a test → ((p ≡ 0) × (needed ≡ false)) ⊎ Linked a p
     go test is (past over e) = clash (cc)

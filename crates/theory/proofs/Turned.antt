@@ -3,7 +3,8 @@ use Prim.Native.Nat.{ℕ, suc, ◌≤◌}
 use mathlib.Core.Path.{◌≡◌, refl, ap, sym, ◌∙◌}
 use mathlib.Core.List.{List, [], ◌∷◌, append_assoc}
 use native.Mathlib.Omega.{arith}
-use Rattle.model.specs.Tree.{Side, lft, rgt, Color, red, Tree, leaf, node, nod, paint, paint_child, rotate, slots, Frame}
+use Rattle.model.specs.Tree.{Side, lft, rgt, Color, red, Tree, leaf, node, nod, paint, paint_child, rotate, slots}
+use Rattle.model.specs.Tree.{Frame}
 use Rattle.model.specs.Tree.{frame, plug}
 use Rattle.model.specs.Shape.{shape, Turned, still, turn, TurnedAtMost}
 use Rattle.theory.proofs.Lists.{slots_around}

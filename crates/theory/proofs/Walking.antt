@@ -78,7 +78,8 @@ module _ {C : ℕ} (d : Side) where
 -- ---- up to the first slot beyond a place
 
 -- one step up
-rise_at_lem : {C : ℕ} (d : Side) (n : ℕ) (t : Tree) (e : Side) (c : Color) (p : ℕ) (s : Tree) (w : List Frame) → 1 ≤ top_of t
+rise_at_lem : {C : ℕ} (d : Side) (n : ℕ) (t : Tree) (e : Side) (c : Color) (p : ℕ) (s : Tree) (w : List Frame)
+    → 1 ≤ top_of t
     → Sound C (plug t (frame e c p s ∷ w))
     → rise d (suc n) (drawn C (plug t (frame e c p s ∷ w))) (top_of t)
     ≡ pick (same_side e d) p (rise d n (drawn C (plug t (frame e c p s ∷ w))) p)

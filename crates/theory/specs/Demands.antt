@@ -33,7 +33,8 @@ pub record Stands (C : ℕ) (cs : List Command) (c : Command) : Type 0 where
   -- the call is not told that they are damaged
   pub never : (perform c (perform_all cs (empty_lent C))).answer.code ≢ damaged
   -- its path is short for the tree before it
-  pub probes : PathFits (perform c (perform_all cs (empty_lent C))).answer.probes (tree_of (perform_all cs (empty_lent C)))
+  pub probes : PathFits (perform c (perform_all cs (empty_lent C))).answer.probes
+      (tree_of (perform_all cs (empty_lent C)))
   -- the arrays are well formed after it
   pub after : WellFormed (perform c (perform_all cs (empty_lent C))).after
   -- and where it is done it means what demand 2 says, with few rotations

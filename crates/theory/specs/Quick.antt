@@ -1,6 +1,7 @@
 -- The check as the code makes it. A walk counts the missing children, which are one more than the nodes, and gives 0
 -- where something is wrong; the bounds of the keys and the black nodes still to come are handed down.
-use Rattle.std.specs.Prelude.{ℕ, zero, suc, ◌+◌, ◌*◌, ◌-◌, ◌%◌, ◌≤◌, Bool, ◌&&◌, List, [], ◌∷◌, ◌≡◌, length, eqb, leb, ltb}
+use Rattle.std.specs.Prelude.{ℕ, zero, suc, ◌+◌, ◌*◌, ◌-◌, ◌%◌, ◌≤◌, Bool, ◌&&◌, List, [], ◌∷◌, ◌≡◌, length, eqb, leb}
+use Rattle.std.specs.Prelude.{ltb}
 use Rattle.model.specs.Branch.{pick, both}
 use Rattle.model.specs.Limits.{depth_limit}
 use Rattle.model.specs.Tree.{lft, rgt, Color, red, black, Tree, slots}

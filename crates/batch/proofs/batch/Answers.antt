@@ -15,11 +15,13 @@ returns-then-answers-count c =
 
 pub returns-then-not-check : goal.returns-then-not-check
 returns-then-not-check c =
-    refused_told c.refused-then-not-check.ensures (batch_damaged _ _ _ c.if-size-ne0.false c.if-size-gt-LONGEST.false c.if-answers-count.false c.check.ensures c.if-not-check.true)
+    refused_told c.refused-then-not-check.ensures (batch_damaged _ _ _ c.if-size-ne0.false c.if-size-gt-LONGEST.false
+    c.if-answers-count.false c.check.ensures c.if-not-check.true)
 
 pub answer_all-requires : goal.answer_all-requires
 answer_all-requires c =
-    batch_within _ _ _ c.if-size-ne0.false c.if-size-gt-LONGEST.false c.if-answers-count.false c.check.ensures c.if-not-check.false
+    batch_within _ _ _ c.if-size-ne0.false c.if-size-gt-LONGEST.false c.if-answers-count.false c.check.ensures
+    c.if-not-check.false
 
 pub overflow_cast-result : goal.overflow_cast-result
 overflow_cast-result c =
@@ -27,4 +29,5 @@ overflow_cast-result c =
 
 pub returns : goal.returns
 returns c =
-    batch_done _ _ _ c.if-size-ne0.false c.if-size-gt-LONGEST.false c.if-answers-count.false c.check.ensures c.if-not-check.false c.answer_all.ensures
+    batch_done _ _ _ c.if-size-ne0.false c.if-size-gt-LONGEST.false c.if-answers-count.false c.check.ensures
+    c.if-not-check.false c.answer_all.ensures

@@ -19,4 +19,5 @@ hang_at-requires c =
 
 pub returns : goal.returns
 returns c =
-    inserted c.requires c.test_new-new.ensures (matched_done _ c.in-Done.is) c.path-path.ensures c.place-at.ensures c.hang_at.ensures c.done.ensures
+    inserted c.requires c.test_new-new.ensures (matched_done _ c.in-Done.is) c.path-path.ensures c.place-at.ensures
+    c.hang_at.ensures c.done.ensures

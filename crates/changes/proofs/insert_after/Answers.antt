@@ -5,7 +5,8 @@ use Rattle.changes.proofs.insert_after.Goals as goal
 
 pub returns-in_default : goal.returns-in_default
 returns-in_default c =
-    next_refused c.requires c.test_position-at.ensures c.test_both-both.ensures rgt _ (matched_other c.test_both-both.result c.in_default.not-Done) c.refused.ensures
+    next_refused c.requires c.test_position-at.ensures c.test_both-both.ensures rgt _
+    (matched_other c.test_both-both.result c.in_default.not-Done) c.refused.ensures
 
 pub gap_after-gap-requires : goal.gap_after-gap-requires
 gap_after-gap-requires c =
@@ -13,8 +14,10 @@ gap_after-gap-requires c =
 
 pub insert_in-requires : goal.insert_in-requires
 insert_in-requires c =
-    next_pre c.requires c.test_position-at.ensures c.test_both-both.ensures (matched_done _ c.in-Done.is) c.gap_after-gap.ensures
+    next_pre c.requires c.test_position-at.ensures c.test_both-both.ensures
+    (matched_done _ c.in-Done.is) c.gap_after-gap.ensures
 
 pub returns : goal.returns
 returns c =
-    next_inserted c.requires c.test_position-at.ensures c.test_both-both.ensures (matched_done _ c.in-Done.is) c.gap_after-gap.ensures c.insert_in.ensures
+    next_inserted c.requires c.test_position-at.ensures c.test_both-both.ensures
+    (matched_done _ c.in-Done.is) c.gap_after-gap.ensures c.insert_in.ensures

@@ -15,12 +15,15 @@ entry-sought-requires c =
 
 pub returns-then-not-same_entry : goal.returns-then-not-same_entry
 returns-then-not-same_entry c =
-    at_stale c.requires c.test_new-new.ensures c.args.entry (matched_done _ c.in-Done.is) c.entry-sought.ensures c.same_entry.ensures c.if-not-same_entry.true c.refused-then-not-same_entry.ensures
+    at_stale c.requires c.test_new-new.ensures c.args.entry (matched_done _ c.in-Done.is) c.entry-sought.ensures
+    c.same_entry.ensures c.if-not-same_entry.true c.refused-then-not-same_entry.ensures
 
 pub fill-requires : goal.fill-requires
 fill-requires c =
-    at_fill c.requires c.test_new-new.ensures c.args.entry (matched_done _ c.in-Done.is) c.entry-sought.ensures c.same_entry.ensures c.if-not-same_entry.false
+    at_fill c.requires c.test_new-new.ensures c.args.entry (matched_done _ c.in-Done.is) c.entry-sought.ensures
+    c.same_entry.ensures c.if-not-same_entry.false
 
 pub returns : goal.returns
 returns c =
-    at_inserted c.requires c.test_new-new.ensures c.args.entry (matched_done _ c.in-Done.is) c.entry-sought.ensures c.same_entry.ensures c.if-not-same_entry.false c.fill.ensures
+    at_inserted c.requires c.test_new-new.ensures c.args.entry (matched_done _ c.in-Done.is) c.entry-sought.ensures
+    c.same_entry.ensures c.if-not-same_entry.false c.fill.ensures

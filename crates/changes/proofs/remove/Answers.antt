@@ -18,4 +18,5 @@ remove-requires c =
 
 pub returns : goal.returns
 returns c =
-    removed_done c.requires c.test_node-at.ensures (matched_done _ c.in-Done.is) c.next-later.ensures c.remove.ensures c.done.ensures
+    removed_done c.requires c.test_node-at.ensures (matched_done _ c.in-Done.is) c.next-later.ensures c.remove.ensures
+    c.done.ensures

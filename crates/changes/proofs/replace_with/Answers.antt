@@ -14,7 +14,8 @@ may_stand-requires c =
 
 pub returns-then-not-may_stand : goal.returns-then-not-may_stand
 returns-then-not-may_stand c =
-    replace_out_of_order c.requires c.test_node-at.ensures c.test_both-both.ensures (matched_done _ c.in-Done.is) c.may_stand.ensures c.if-not-may_stand.true c.refused-then-not-may_stand.ensures
+    replace_out_of_order c.requires c.test_node-at.ensures c.test_both-both.ensures
+    (matched_done _ c.in-Done.is) c.may_stand.ensures c.if-not-may_stand.true c.refused-then-not-may_stand.ensures
 
 pub replace_with-requires : goal.replace_with-requires
 replace_with-requires c =
@@ -26,5 +27,6 @@ set_key-requires c =
 
 pub returns : goal.returns
 returns c =
-    replaced_done c.requires c.test_node-at.ensures c.test_both-both.ensures (matched_done _ c.in-Done.is) c.may_stand.ensures c.if-not-may_stand.false
+    replaced_done c.requires c.test_node-at.ensures c.test_both-both.ensures
+    (matched_done _ c.in-Done.is) c.may_stand.ensures c.if-not-may_stand.false
     c.replace_with.ensures c.set_key.ensures c.done.ensures

@@ -11,4 +11,5 @@ returns-in-Done c =
 
 pub returns-in_default : goal.returns-in_default
 returns-in_default c =
-    part_refused _ c.trim-part.ensures c.key_of_part-coded.ensures (not_done c.key_of_part-coded.result.code c.in_default.not-Done)
+    part_refused _ c.trim-part.ensures c.key_of_part-coded.ensures
+    (not_done c.key_of_part-coded.result.code c.in_default.not-Done)

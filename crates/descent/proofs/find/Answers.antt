@@ -37,4 +37,5 @@ returns-then-held-k c =
 
 pub returns-then-is_leaf : goal.returns-then-is_leaf
 returns-then-is_leaf c =
-    found_leaf c.requires c.loop-here.invariant c.loop-here-test.true c.key_of-held.ensures c.get-first.ensures c.get-second.ensures c.if-held-k.false c.pick-here.ensures c.is_leaf.ensures c.if-is_leaf.true
+    found_leaf c.requires c.loop-here.invariant c.loop-here-test.true c.key_of-held.ensures c.get-first.ensures
+    c.get-second.ensures c.if-held-k.false c.pick-here.ensures c.is_leaf.ensures c.if-is_leaf.true

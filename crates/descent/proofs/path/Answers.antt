@@ -25,7 +25,8 @@ loop-here-smaller c =
 
 pub loop-here-preserved : goal.loop-here-preserved
 loop-here-preserved c =
-    pass_on c.requires c.loop-here.invariant c.loop-here-test.true c.key_of-held.ensures c.get-first.ensures c.get-second.ensures c.is_over-goes_left.ensures c.pick-over.ensures c.pick-under.ensures c.pick-here.ensures
+    pass_on c.requires c.loop-here.invariant c.loop-here-test.true c.key_of-held.ensures c.get-first.ensures
+    c.get-second.ensures c.is_over-goes_left.ensures c.pick-over.ensures c.pick-under.ensures c.pick-here.ensures
 
 pub returns-after-loop-here : goal.returns-after-loop-here
 returns-after-loop-here c =
@@ -33,4 +34,6 @@ returns-after-loop-here c =
 
 pub returns-then-is_leaf : goal.returns-then-is_leaf
 returns-then-is_leaf c =
-    passed_leaf c.requires c.loop-here.invariant c.loop-here-test.true c.key_of-held.ensures c.get-first.ensures c.get-second.ensures c.is_over-goes_left.ensures c.pick-over.ensures c.pick-under.ensures c.pick-here.ensures c.is_leaf.ensures c.if-is_leaf.true
+    passed_leaf c.requires c.loop-here.invariant c.loop-here-test.true c.key_of-held.ensures c.get-first.ensures
+    c.get-second.ensures c.is_over-goes_left.ensures c.pick-over.ensures c.pick-under.ensures c.pick-here.ensures
+    c.is_leaf.ensures c.if-is_leaf.true

@@ -16,20 +16,25 @@ parent-grand-requires c =
 
 pub get-first-requires : goal.get-first-requires
 get-first-requires c =
-    finish_get_left c.requires.here c.parent-parent.ensures c.is_red.ensures c.if-not-is_red.false c.parent-grand.ensures
+    finish_get_left c.requires.here c.parent-parent.ensures c.is_red.ensures c.if-not-is_red.false
+    c.parent-grand.ensures
 
 pub finish_at-requires : goal.finish_at-requires
 finish_at-requires c =
-    finish_left c.requires.here c.parent-parent.ensures c.is_red.ensures c.if-not-is_red.false c.parent-grand.ensures c.get-first.ensures c.if-first-parent.true
+    finish_left c.requires.here c.parent-parent.ensures c.is_red.ensures c.if-not-is_red.false c.parent-grand.ensures
+    c.get-first.ensures c.if-first-parent.true
 
 pub finish_at-requires-else-first-parent : goal.finish_at-requires-else-first-parent
 finish_at-requires-else-first-parent c =
-    finish_right c.requires.here c.parent-parent.ensures c.is_red.ensures c.if-not-is_red.false c.parent-grand.ensures c.get-first.ensures c.if-first-parent.false
+    finish_right c.requires.here c.parent-parent.ensures c.is_red.ensures c.if-not-is_red.false c.parent-grand.ensures
+    c.get-first.ensures c.if-first-parent.false
 
 pub returns-then-first-parent : goal.returns-then-first-parent
 returns-then-first-parent c =
-    finished_left c.requires.here c.parent-parent.ensures c.is_red.ensures c.if-not-is_red.false c.parent-grand.ensures c.get-first.ensures c.if-first-parent.true c.finish_at.ensures
+    finished_left c.requires.here c.parent-parent.ensures c.is_red.ensures c.if-not-is_red.false c.parent-grand.ensures
+    c.get-first.ensures c.if-first-parent.true c.finish_at.ensures
 
 pub returns-else-first-parent : goal.returns-else-first-parent
 returns-else-first-parent c =
-    finished_right c.requires.here c.parent-parent.ensures c.is_red.ensures c.if-not-is_red.false c.parent-grand.ensures c.get-first.ensures c.if-first-parent.false c.finish_at-else-first-parent.ensures
+    finished_right c.requires.here c.parent-parent.ensures c.is_red.ensures c.if-not-is_red.false c.parent-grand.ensures
+    c.get-first.ensures c.if-first-parent.false c.finish_at-else-first-parent.ensures

@@ -26,4 +26,5 @@ returns-then-outer-slot c =
 
 pub returns-else-outer-slot : goal.returns-else-outer-slot
 returns-else-outer-slot c =
-    finished_inner c.requires c.get-outer.ensures c.if-outer-slot.false c.rotate.ensures c.settle-else-outer-slot.ensures
+    finished_inner c.requires c.get-outer.ensures c.if-outer-slot.false c.rotate.ensures
+    c.settle-else-outer-slot.ensures

@@ -7,4 +7,5 @@ paint_top-requires c =
 
 pub returns : goal.returns
 returns c =
-    recolor_done c.requires c.parent-parent.ensures c.set_color.ensures c.parent-grand.ensures c.paint_top.ensures c.set_color-2.ensures
+    recolor_done c.requires c.parent-parent.ensures c.set_color.ensures c.parent-grand.ensures c.paint_top.ensures
+    c.set_color-2.ensures

@@ -19,8 +19,10 @@ get-second-requires c =
 
 pub returns-then-first-parent : goal.returns-then-first-parent
 returns-then-first-parent c =
-    uncle_right c.requires c.parent-parent.ensures c.is_red.ensures c.if-not-is_red.false c.parent-grand.ensures c.get-first.ensures c.if-first-parent.true c.get-second.ensures c.red_or_none.ensures
+    uncle_right c.requires c.parent-parent.ensures c.is_red.ensures c.if-not-is_red.false c.parent-grand.ensures
+    c.get-first.ensures c.if-first-parent.true c.get-second.ensures c.red_or_none.ensures
 
 pub returns-else-first-parent : goal.returns-else-first-parent
 returns-else-first-parent c =
-    uncle_left c.requires c.parent-parent.ensures c.is_red.ensures c.if-not-is_red.false c.parent-grand.ensures c.get-first.ensures c.if-first-parent.false c.red_or_none-else-first-parent.ensures
+    uncle_left c.requires c.parent-parent.ensures c.is_red.ensures c.if-not-is_red.false c.parent-grand.ensures
+    c.get-first.ensures c.if-first-parent.false c.red_or_none-else-first-parent.ensures

@@ -11,4 +11,5 @@ rotate-requires c =
 
 pub returns : goal.returns
 returns c =
-    settled c.requires c.parent-parent.ensures c.set_color.ensures c.parent-grand.ensures c.set_color-2.ensures c.rotate.ensures
+    settled c.requires c.parent-parent.ensures c.set_color.ensures c.parent-grand.ensures c.set_color-2.ensures
+    c.rotate.ensures

@@ -24,7 +24,8 @@ remove_one-requires-then-second-eq0 c =
 
 pub returns-then-second-eq0 : goal.returns-then-second-eq0
 returns-then-second-eq0 c =
-    removed_left c.requires c.get-first.ensures c.get-second.ensures c.if-first-eq0.false c.if-second-eq0.true c.remove_one-then-second-eq0.ensures
+    removed_left c.requires c.get-first.ensures c.get-second.ensures c.if-first-eq0.false c.if-second-eq0.true
+    c.remove_one-then-second-eq0.ensures
 
 pub end_of-next-requires : goal.end_of-next-requires
 end_of-next-requires c =
@@ -32,8 +33,10 @@ end_of-next-requires c =
 
 pub remove_two-requires : goal.remove_two-requires
 remove_two-requires c =
-    remove_two_lem c.requires c.get-first.ensures c.get-second.ensures c.if-first-eq0.false c.if-second-eq0.false c.end_of-next.ensures
+    remove_two_lem c.requires c.get-first.ensures c.get-second.ensures c.if-first-eq0.false c.if-second-eq0.false
+    c.end_of-next.ensures
 
 pub returns : goal.returns
 returns c =
-    removed_two c.requires c.get-first.ensures c.get-second.ensures c.if-first-eq0.false c.if-second-eq0.false c.end_of-next.ensures c.remove_two.ensures
+    removed_two c.requires c.get-first.ensures c.get-second.ensures c.if-first-eq0.false c.if-second-eq0.false
+    c.end_of-next.ensures c.remove_two.ensures

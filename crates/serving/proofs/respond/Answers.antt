@@ -19,4 +19,5 @@ put_answer-requires c =
 
 pub returns : goal.returns
 returns c =
-    responded_cut _ c.requires (search rules) c.batch-batched.ensures c.if-tail-eq0.false c.refused.ensures c.put_answer.ensures
+    responded_cut _ c.requires (search rules) c.batch-batched.ensures c.if-tail-eq0.false c.refused.ensures
+    c.put_answer.ensures

@@ -7,19 +7,23 @@ replace_child-requires c =
 
 pub adopt-requires-2 : goal.adopt-requires-2
 adopt-requires-2 c =
-    with_adopt c.requires c.parent-parent.ensures c.color-color.ensures c.get-first.ensures c.get-second.ensures c.replace_child.ensures c.adopt.ensures
+    with_adopt c.requires c.parent-parent.ensures c.color-color.ensures c.get-first.ensures c.get-second.ensures
+    c.replace_child.ensures c.adopt.ensures
 
 pub set_links-requires : goal.set_links-requires
 set_links-requires c =
-    with_links c.requires c.parent-parent.ensures c.color-color.ensures c.get-first.ensures c.get-second.ensures c.replace_child.ensures c.adopt.ensures c.adopt-2.ensures
+    with_links c.requires c.parent-parent.ensures c.color-color.ensures c.get-first.ensures c.get-second.ensures
+    c.replace_child.ensures c.adopt.ensures c.adopt-2.ensures
 
 pub release-requires : goal.release-requires
 release-requires c =
-    with_release c.requires c.parent-parent.ensures c.color-color.ensures c.get-first.ensures c.get-second.ensures c.replace_child.ensures c.adopt.ensures c.adopt-2.ensures c.set_links.ensures
+    with_release c.requires c.parent-parent.ensures c.color-color.ensures c.get-first.ensures c.get-second.ensures
+    c.replace_child.ensures c.adopt.ensures c.adopt-2.ensures c.set_links.ensures
 
 pub returns : goal.returns
 returns c =
-    replaced_with c.requires c.parent-parent.ensures c.color-color.ensures c.get-first.ensures c.get-second.ensures c.replace_child.ensures c.adopt.ensures c.adopt-2.ensures c.set_links.ensures c.release.ensures
+    replaced_with c.requires c.parent-parent.ensures c.color-color.ensures c.get-first.ensures c.get-second.ensures
+    c.replace_child.ensures c.adopt.ensures c.adopt-2.ensures c.set_links.ensures c.release.ensures
 
 pub shape_of-left : goal.shape_of-left
 shape_of-left c =

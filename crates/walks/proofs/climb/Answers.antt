@@ -21,12 +21,15 @@ get-child-requires c =
 
 pub returns-then-child-here : goal.returns-then-child-here
 returns-then-child-here c =
-    climb_found c.loop-here.invariant c.parent-parent.ensures c.if-parent-eq0.false c.get-child.ensures c.if-child-here.true
+    climb_found c.loop-here.invariant c.parent-parent.ensures c.if-parent-eq0.false c.get-child.ensures
+    c.if-child-here.true
 
 pub loop-here-smaller : goal.loop-here-smaller
 loop-here-smaller c =
-    climb_less c.loop-here.invariant c.parent-parent.ensures c.if-parent-eq0.false c.get-child.ensures c.if-child-here.false
+    climb_less c.loop-here.invariant c.parent-parent.ensures c.if-parent-eq0.false c.get-child.ensures
+    c.if-child-here.false
 
 pub loop-here-preserved : goal.loop-here-preserved
 loop-here-preserved c =
-    climb_on c.loop-here.invariant c.parent-parent.ensures c.if-parent-eq0.false c.get-child.ensures c.if-child-here.false
+    climb_on c.loop-here.invariant c.parent-parent.ensures c.if-parent-eq0.false c.get-child.ensures
+    c.if-child-here.false

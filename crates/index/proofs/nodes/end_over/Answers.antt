@@ -11,7 +11,8 @@ loop-walk-init c =
 
 pub offset_bounds-nodes-at : goal.offset_bounds-nodes-at
 offset_bounds-nodes-at c =
-    let within : c.loop-walk.walk.at < length c.args.nodes.now = going_within _ _ c.loop-walk.invariant c.loop-walk-test.true in
+    let within : c.loop-walk.walk.at < length c.args.nodes.now = going_within _ _ c.loop-walk.invariant
+    c.loop-walk-test.true in
     search rules
 
 pub bounds-nodes-at : goal.bounds-nodes-at

@@ -7,7 +7,8 @@ use Rattle.index.proofs.nodes.end_over.Given as goal
 
 abbrev pub invariant-loop-walk : goal.invariant-loop-walk
 invariant-loop-walk l =
-    Going (side_if l.on_left) (links_told l.nodes) (end_over (side_if l.on_left) (links_told l.nodes) l.fn.start.0) l.walk
+    Going (side_if l.on_left) (links_told l.nodes) (end_over (side_if l.on_left) (links_told l.nodes) l.fn.start.0)
+    l.walk
 
 abbrev pub decreases-loop-walk : goal.decreases-loop-walk
 decreases-loop-walk l = turns_left l.walk
