@@ -113,7 +113,9 @@ pub fn said(said: &Said) -> String {
             let Answer { code: c, probes, slot } = o.answer;
             format!("of_call (outcome {} {probes} {slot} {})", code(c), lent(&o.after))
         }
-        Said::Meant { list: l, keys, halfway } => format!("of_meaning ({}) ({}) {}", list(l), list(keys), lent(halfway)),
+        Said::Meant { list: l, keys, halfway } => {
+            format!("of_meaning ({}) ({}) {}", list(l), list(keys), lent(halfway))
+        }
         Said::Moved { answer: a, cursor } => {
             format!("of_move (record {{ answer = {}; cursor = {cursor} }})", answer(a))
         }
