@@ -1,58 +1,64 @@
--- The model tells the code's answers apart: a promise about `code_of` or `told` settles the code or the answer.
+-- The model tells the code's answers apart: a promise about `refusal_code` or `told` settles the refusal or the answer.
+use mathlib.Core.Bool.{false}
 use mathlib.Core.Path.{◌≡◌, refl, sym, ap, ◌∙◌}
+use Rattle.std.proofs.Common.{Result, Ok, Err}
 use Rattle.model.specs.Answers as model
-use Rattle.links.specs.declared.types.Code.{Code}
-use Rattle.links.specs.declared.types.Code.TheVariants.{Done, Damaged, BadSlot, AlreadyLinked, NotLinked}
-use Rattle.links.specs.declared.types.Code.TheVariants.{OutOfOrder, NullCursor, Stale, BadRecord, BadLength}
-use Rattle.links.specs.declared.types.Code.TheVariants.{Short, BadCode}
-use Rattle.links.specs.declared.types.Answer.{Answer}
-use Rattle.links.specs.Answers.{code_of, told}
+use Rattle.links.specs.declared.types.Done.{Done}
+use Rattle.links.specs.declared.types.Refusal.{Refusal}
+use Rattle.links.specs.declared.types.Refusal.TheVariants.{Damaged, BadSlot, AlreadyLinked, NotLinked, OutOfOrder}
+use Rattle.links.specs.declared.types.Refusal.TheVariants.{NullCursor, Stale, BadRecord, BadLength, Short, BadCode}
+use Rattle.links.specs.Outcomes.{refusal_code, told}
 
--- the case that stands for a code
-abbrev case_of : model.Code → Code
-case_of model.done = Done
-case_of model.damaged = Damaged
-case_of model.bad_slot = BadSlot
-case_of model.already_linked = AlreadyLinked
-case_of model.not_linked = NotLinked
-case_of model.out_of_order = OutOfOrder
-case_of model.null_cursor = NullCursor
-case_of model.stale = Stale
-case_of model.bad_record = BadRecord
-case_of model.bad_length = BadLength
-case_of model.short = Short
-case_of model.bad_code = BadCode
+-- what stands for a code, where done is given
+abbrev pub case_of : {A : Type 0} → A → model.Code → Result A Refusal
+case_of a model.done = Ok a
+case_of a model.damaged = Err Damaged
+case_of a model.bad_slot = Err BadSlot
+case_of a model.already_linked = Err AlreadyLinked
+case_of a model.not_linked = Err NotLinked
+case_of a model.out_of_order = Err OutOfOrder
+case_of a model.null_cursor = Err NullCursor
+case_of a model.stale = Err Stale
+case_of a model.bad_record = Err BadRecord
+case_of a model.bad_length = Err BadLength
+case_of a model.short = Err Short
+case_of a model.bad_code = Err BadCode
 
-case_of_code : (c : Code) → case_of (code_of c) ≡ c
-case_of_code Done = refl
-case_of_code Damaged = refl
-case_of_code BadSlot = refl
-case_of_code AlreadyLinked = refl
-case_of_code NotLinked = refl
-case_of_code OutOfOrder = refl
-case_of_code NullCursor = refl
-case_of_code Stale = refl
-case_of_code BadRecord = refl
-case_of_code BadLength = refl
-case_of_code Short = refl
-case_of_code BadCode = refl
-
--- One code, one case.
-pub code_one : (a b : Code) → code_of a ≡ code_of b → a ≡ b
-code_one a b e = sym (case_of_code a) ∙ ap case_of e ∙ case_of_code b
+pub case_of_code : {A : Type 0} (a : A) (r : Refusal) → case_of a (refusal_code r) ≡ Err r
+case_of_code a Damaged = refl
+case_of_code a BadSlot = refl
+case_of_code a AlreadyLinked = refl
+case_of_code a NotLinked = refl
+case_of_code a OutOfOrder = refl
+case_of_code a NullCursor = refl
+case_of_code a Stale = refl
+case_of_code a BadRecord = refl
+case_of_code a BadLength = refl
+case_of_code a Short = refl
+case_of_code a BadCode = refl
 
 -- the answer that stands for one of the model
-answer_of : model.Answer → Answer
-answer_of a = record { code = case_of a.code; probes = a.probes; slot = record { 0 = a.slot } }
+abbrev answer_of : model.Answer → Result Done Refusal
+answer_of a = case_of (record { probes = a.probes; slot = record { 0 = a.slot } }) a.code
 
-answer_of_told : (a : Answer) → answer_of (told a) ≡ a
-unfolding answer_of
-answer_of_told a = rw case_of_code
+answer_of_told : (a : Result Done Refusal) → answer_of (told a) ≡ a
+answer_of_told (Ok d) = refl
+answer_of_told (Err r) = case_of_code _ r
 
 -- One answer of the model, one of the code.
-pub told_one : (a b : Answer) → told a ≡ told b → a ≡ b
+pub told_one : (a b : Result Done Refusal) → told a ≡ told b → a ≡ b
 told_one a b e = sym (answer_of_told a) ∙ ap answer_of e ∙ answer_of_told b
 
--- In the arm of a `match` that takes all other cases, the code isn't Done.
-pub not_done : (c : Code) → (c ≡ Done → ⊥) → code_of c ≡ model.done → ⊥
-not_done c k e = k (code_one c Done e)
+-- A refusal isn't Done.
+pub refuses : (r : Refusal) → model.is_done (refusal_code r) ≡ false
+refuses Damaged = refl
+refuses BadSlot = refl
+refuses AlreadyLinked = refl
+refuses NotLinked = refl
+refuses OutOfOrder = refl
+refuses NullCursor = refl
+refuses Stale = refl
+refuses BadRecord = refl
+refuses BadLength = refl
+refuses Short = refl
+refuses BadCode = refl

@@ -4,3 +4,4 @@ pub mod Reading
 pub mod Writing
 pub mod Spots
 pub mod Colors
+pub mod Shapes

@@ -2,7 +2,7 @@
 use Prim.Native.Nat.{ℕ, ◌-◌, ◌/◌, ◌%◌}
 use mathlib.Core.Bool.{false, not}
 use mathlib.Core.List.{List}
-use mathlib.Core.Path.{◌≡◌, refl}
+use mathlib.Core.Path.{◌≡◌, refl, sym}
 use lib.Dec.{eqb}
 use lib.ListN.{get_or}
 use borrow.Author.Tests.{eq-eqb, ne_eqb}
@@ -23,9 +23,15 @@ pub got_parent : (p : List ℕ) (s : ℕ) → ParentPre p s → GotParent p s (g
 unfolding at parent_at
 got_parent p s b = record { is = refl; top = b.parents.each s }
 
-pub got_color : (p : List ℕ) (s : ℕ) → GotColor p s (get_or p (s - 1) 0 % 2)
-unfolding at color_at
-got_color p s = record { is = refl; bit = omega arith }
+-- a slot whose number is even is red, and any other black
+module _ {p : List ℕ} {s : ℕ} where
+  pub got_red : get_or p (s - 1) 0 % 2 ≡ 0 → GotColor p s 0
+  unfolding at color_at
+  got_red e = record { is = sym e; bit = omega arith }
+
+  pub got_black : (get_or p (s - 1) 0 % 2 ≡ 0 → ⊥) → GotColor p s 1
+  unfolding at color_at
+  got_black n = record { is = omega (arith, n); bit = omega arith }
 
 pub red_none : {p : List ℕ} {s : ℕ} → s ≡ 0 → GotRed p s false
 unfolding red_at

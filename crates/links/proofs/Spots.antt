@@ -50,12 +50,11 @@ module _ {near far pc : List ℕ} {x : ℕ} (k : SlotIn near far pc x) where
   pub in_parent : ParentPre pc x
   in_parent = record { pos = k.pos; top = omega (arith, k.top, k.lp); parents = k.pc }
 
-  pub in_set_color : {v : ℕ} → v ≤ 1 → SetColorPre pc x v
-  in_set_color bit = record {
+  pub in_set_color : SetColorPre pc x
+  in_set_color = record {
     pos = k.pos;
     top = omega (arith, k.top, k.lp);
     parents = k.pc;
-    value = bit;
     small = omega (arith, k.small, k.lp);
   }
 

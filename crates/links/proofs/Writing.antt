@@ -11,7 +11,15 @@ use Rattle.theory.specs.Slots.{put, parent_at, color_at, put_parent, put_color}
 use Rattle.theory.proofs.Sided.{sided_set_near, sided_set_far, sided_set_pc}
 use Rattle.links.specs.Writes.{SetPre, Set, SetParentColorPre, SetParentColor, SetParentPre, SetParent}
 use Rattle.links.specs.Writes.{SetColorPre, SetColor, SetLinks, Released, SetKey}
+use Rattle.links.specs.Colors.{shade}
+use Rattle.links.specs.declared.types.Color.{Color}
+use Rattle.links.specs.declared.types.Color.TheVariants.{Red, Black}
 use Rattle.theory.proofs.Slots.{length_put, below_put, parents_put}
+
+-- a colour's number is 0 or 1
+pub shade_bit : (c : Color) → shade c ≤ 1
+shade_bit Red = omega arith
+shade_bit Black = omega arith
 
 pub is_set : (l : List ℕ) (s v : ℕ) → SetPre l s v → Set l s v (set l (s - 1) v)
 unfolding put
@@ -19,13 +27,14 @@ is_set l s v h =
     record { is = refl; below = below_put l s v h.below h.pos h.top h.value; same = length_put l s v }
 
 pub is_set_parent_color :
-    (p : List ℕ) (s v c : ℕ) → SetParentColorPre p s v c → SetParentColor p s v c (set p (s - 1) (2 * v + c))
+    (p : List ℕ) (s v : ℕ) (c : Color) → SetParentColorPre p s v
+    → SetParentColor p s v (shade c) (set p (s - 1) (2 * v + shade c))
 unfolding put
 is_set_parent_color p s v c h =
     record {
       is = refl;
-      parents = parents_put p s (2 * v + c) h.parents h.pos h.top (omega (arith, h.value, h.bit));
-      same = length_put p s (2 * v + c);
+      parents = parents_put p s (2 * v + shade c) h.parents h.pos h.top (omega (arith, h.value, shade_bit c));
+      same = length_put p s (2 * v + shade c);
     }
 
 pub is_set_parent :
@@ -39,18 +48,19 @@ is_set_parent p s v h =
       same = length_put p s w;
     }
 
-pub parent_top : (p : List ℕ) (s v : ℕ) → SetColorPre p s v → get_or p (s - 1) 0 / 2 ≤ length p
+pub parent_top : (p : List ℕ) (s : ℕ) → SetColorPre p s → get_or p (s - 1) 0 / 2 ≤ length p
 unfolding at parent_at
-parent_top p s v h = h.parents.each s
+parent_top p s h = h.parents.each s
 
 pub is_set_color :
-    (p : List ℕ) (s v : ℕ) → SetColorPre p s v → SetColor p s v (set p (s - 1) (2 * (get_or p (s - 1) 0 / 2) + v))
+    (p : List ℕ) (s : ℕ) (c : Color) → SetColorPre p s
+    → SetColor p s (shade c) (set p (s - 1) (2 * (get_or p (s - 1) 0 / 2) + shade c))
 unfolding at put parent_at put_color
-is_set_color p s v h =
-    let w = 2 * (get_or p (s - 1) 0 / 2) + v in
+is_set_color p s c h =
+    let w = 2 * (get_or p (s - 1) 0 / 2) + shade c in
     record {
       is = refl;
-      parents = parents_put p s w h.parents h.pos h.top (omega (arith, h.value, parent_top p s v h));
+      parents = parents_put p s w h.parents h.pos h.top (omega (arith, shade_bit c, parent_top p s h));
       same = length_put p s w;
     }
 

@@ -1,9 +1,10 @@
 -- What the reads of links require, and what they tell.
-use Rattle.std.specs.Prelude.{ℕ, ◌≤◌, ◌<◌, Bool, false, not, List, ◌≡◌, eqb, length}
+use Rattle.std.specs.Prelude.{ℕ, ◌≤◌, ◌<◌, Bool, false, not, Option, Some, None, List, ◌≡◌, eqb, length}
 use Rattle.model.specs.Branch.{pick}
 use Rattle.model.specs.Limits.{capacity_limit}
 use Rattle.model.specs.Lent.{at}
 use Rattle.theory.specs.Slots.{parent_at, color_at, Below, Parents}
+use Rattle.links.specs.declared.types.Slot.{Slot}
 
 -- s is a slot of the array.
 pub record SlotOf (l : List ℕ) (s : ℕ) : Type 0 where
@@ -59,3 +60,8 @@ linked_at p s = not (eqb (at p s) 0)
 
 pub record GotLinked (p : List ℕ) (s : ℕ) (b : Bool) : Type 0 where
   pub is : b ≡ linked_at p s
+
+-- an answer of a search is the slot of this number, or none for 0
+abbrev pub SlotOrNone : Option Slot → ℕ → Type 0
+SlotOrNone None n = n ≡ 0
+SlotOrNone (Some s) n = (0 < s.0) × (s.0 ≡ n)

@@ -19,12 +19,11 @@ pub record Set (l : List ℕ) (s v : ℕ) (e : List ℕ) : Type 0 where
   pub same : length e ≡ length l
 
 -- set_parent_color
-pub record SetParentColorPre (p : List ℕ) (s v c : ℕ) : Type 0 where
+pub record SetParentColorPre (p : List ℕ) (s v : ℕ) : Type 0 where
   pub pos : 0 < s
   pub top : s ≤ length p
   pub parents : Parents p
   pub value : v ≤ length p
-  pub bit : c ≤ 1
   pub small : length p ≤ capacity_limit
 
 pub record SetParentColor (p : List ℕ) (s v c : ℕ) (e : List ℕ) : Type 0 where
@@ -46,11 +45,10 @@ pub record SetParent (p : List ℕ) (s v : ℕ) (e : List ℕ) : Type 0 where
   pub same : length e ≡ length p
 
 -- set_color
-pub record SetColorPre (p : List ℕ) (s v : ℕ) : Type 0 where
+pub record SetColorPre (p : List ℕ) (s : ℕ) : Type 0 where
   pub pos : 0 < s
   pub top : s ≤ length p
   pub parents : Parents p
-  pub value : v ≤ 1
   pub small : length p ≤ capacity_limit
 
 pub record SetColor (p : List ℕ) (s v : ℕ) (e : List ℕ) : Type 0 where
@@ -68,13 +66,12 @@ pub record Released (l r p : List ℕ) (s : ℕ) (l' r' p' : List ℕ) : Type 0 
   pub same_right : length r' ≡ length r
   pub same_pc : length p' ≡ length p
 
--- set_links: beside the slot, the children a and b, the parent v and the colour c can be stored.
-pub record SetLinksPre (l r p : List ℕ) (s a b v c : ℕ) : Type 0 where
+-- set_links: beside the slot, the children a and b, and the parent v can be stored.
+pub record SetLinksPre (l r p : List ℕ) (s a b v : ℕ) : Type 0 where
   pub slot : SlotIn l r p s
   pub first : a ≤ length l
   pub second : b ≤ length l
   pub parent : v ≤ length l
-  pub bit : c ≤ 1
 
 pub record SetLinks (l r p : List ℕ) (s a b v c : ℕ) (l' r' p' : List ℕ) : Type 0 where
   pub is : (t : ℕ) → links l' r' p' t ≡ store (links l r p t) s a b (2 * v + c)

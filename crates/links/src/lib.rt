@@ -4,15 +4,16 @@
 
 pub mod types;
 
-ghost use Rattle.std.specs.Prelude.{◌≡◌, ◌&&◌, ◌≤◌, length};
+ghost use Rattle.std.specs.Prelude.{◌≡◌, ◌≤◌, length};
 ghost use Rattle.model.specs.Branch.{pick as choice};
 ghost use Rattle.model.specs.Lent.{at};
+ghost use Rattle.links.specs.Colors.{shade};
 ghost use Rattle.links.specs.Reads.{SlotOf, SlotIn, GetPre, Got, ParentPre, GotParent, GotColor, GotLinked};
 ghost use Rattle.links.specs.Reads.{GotRed};
 ghost use Rattle.links.specs.Writes.{SetPre, Set, SetParentColorPre, SetParentColor, SetParentPre, SetParent};
 ghost use Rattle.links.specs.Writes.{SetColorPre, SetColor, SetLinksPre, SetLinks, Released, SetKey};
 
-use types::{Key, Slot};
+use types::{Color, Key, Slot};
 
 // The most slots.
 pub const CAPACITY: usize = 2048;
@@ -20,19 +21,12 @@ pub const CAPACITY: usize = 2048;
 // The most nodes on a way down a well-formed tree of as many slots.
 pub const DEPTH: u32 = 22;
 
-// The colours.
-pub const RED: u32 = 0;
-
-pub const BLACK: u32 = 1;
-
 // The child of a slot, by the left links or the right ones.
 pub fn get(links: &[u32], slot: Slot) -> Slot
     requires { GetPre links.now slot.0 }
     ensures { Got links.now slot.0 result.0 }
 {
-    let s = slot.0;
-    let at = s as usize - 1;
-    Slot(links[at])
+    Slot(links[slot.index()])
 }
 
 // The child of a slot becomes `child`.
@@ -40,9 +34,7 @@ pub fn set(links: &mut [u32], slot: Slot, child: Slot)
     requires { SetPre links.old slot.0 child.0 }
     ensures { Set links.old slot.0 child.0 links.new }
 {
-    let s = slot.0;
-    let at = s as usize - 1;
-    links[at] = child.0;
+    links[slot.index()] = child.0;
 }
 
 // The parent of a slot, or 0.
@@ -50,19 +42,19 @@ pub fn parent(pc: &[u32], slot: Slot) -> Slot
     requires { ParentPre pc.now slot.0 }
     ensures { GotParent pc.now slot.0 result.0 }
 {
-    let s = slot.0;
-    let at = s as usize - 1;
-    Slot(pc[at] / 2)
+    Slot(pc[slot.index()] / 2)
 }
 
-// The colour of a slot, RED or BLACK.
-pub fn color(pc: &[u32], slot: Slot) -> u32
+// The colour of a slot.
+pub fn color(pc: &[u32], slot: Slot) -> Color
     requires { SlotOf pc.now slot.0 }
-    ensures { GotColor pc.now slot.0 result }
+    ensures { GotColor pc.now slot.0 (shade result) }
 {
-    let s = slot.0;
-    let at = s as usize - 1;
-    pc[at] % 2
+    if pc[slot.index()] % 2 == 0 {
+        Color::Red
+    } else {
+        Color::Black
+    }
 }
 
 // Whether there is a slot and it is red.
@@ -73,8 +65,7 @@ pub fn is_red(pc: &[u32], slot: Slot) -> bool
     if slot.0 == 0 {
         return false;
     }
-    let color = color(pc, slot);
-    color == RED
+    color(pc, slot) == Color::Red
 }
 
 // Whether a slot is linked.
@@ -82,19 +73,15 @@ pub fn is_linked(pc: &[u32], slot: Slot) -> bool
     requires { SlotOf pc.now slot.0 }
     ensures { GotLinked pc.now slot.0 result }
 {
-    let s = slot.0;
-    let at = s as usize - 1;
-    pc[at] != 0
+    pc[slot.index()] != 0
 }
 
 // The parent and the colour of a slot.
-pub fn set_parent_color(pc: &mut [u32], slot: Slot, parent: Slot, color: u32)
-    requires { SetParentColorPre pc.old slot.0 parent.0 color }
-    ensures { SetParentColor pc.old slot.0 parent.0 color pc.new }
+pub fn set_parent_color(pc: &mut [u32], slot: Slot, parent: Slot, color: Color)
+    requires { SetParentColorPre pc.old slot.0 parent.0 }
+    ensures { SetParentColor pc.old slot.0 parent.0 (shade color) pc.new }
 {
-    let s = slot.0;
-    let at = s as usize - 1;
-    pc[at] = 2 * parent.0 + color;
+    pc[slot.index()] = 2 * parent.0 + u32::from(color);
 }
 
 // The parent of a slot; the colour stays.
@@ -102,24 +89,20 @@ pub fn set_parent(pc: &mut [u32], slot: Slot, parent: Slot)
     requires { SetParentPre pc.old slot.0 parent.0 }
     ensures { SetParent pc.old slot.0 parent.0 pc.new }
 {
-    let s = slot.0;
-    let at = s as usize - 1;
-    let color = pc[at] % 2;
-    pc[at] = 2 * parent.0 + color;
+    let color = pc[slot.index()] % 2;
+    pc[slot.index()] = 2 * parent.0 + color;
 }
 
 // The colour of a slot; the parent stays.
-pub fn set_color(pc: &mut [u32], slot: Slot, color: u32)
-    requires { SetColorPre pc.old slot.0 color }
-    ensures { SetColor pc.old slot.0 color pc.new }
+pub fn set_color(pc: &mut [u32], slot: Slot, color: Color)
+    requires { SetColorPre pc.old slot.0 }
+    ensures { SetColor pc.old slot.0 (shade color) pc.new }
 {
-    let s = slot.0;
-    let at = s as usize - 1;
-    let parent = pc[at] / 2;
-    pc[at] = 2 * parent + color;
+    let parent = pc[slot.index()] / 2;
+    pc[slot.index()] = 2 * parent + u32::from(color);
 }
 
-// The children, the parent and the colour of a slot.
+// The children, the parent and the colour of a slot. No bundle: the root is no part of this.
 pub fn set_links(
     left: &mut [u32],
     right: &mut [u32],
@@ -128,11 +111,11 @@ pub fn set_links(
     first: Slot,
     second: Slot,
     parent: Slot,
-    color: u32,
+    color: Color,
 )
-    requires { SetLinksPre left.old right.old pc.old slot.0 first.0 second.0 parent.0 color }
+    requires { SetLinksPre left.old right.old pc.old slot.0 first.0 second.0 parent.0 }
     ensures { SetLinks left.old right.old pc.old
-        slot.0 first.0 second.0 parent.0 color
+        slot.0 first.0 second.0 parent.0 (shade color)
         left.new right.new pc.new }
 {
     set(left, slot, first);
@@ -140,13 +123,13 @@ pub fn set_links(
     set_parent_color(pc, slot, parent, color);
 }
 
-// The slot becomes unlinked.
+// The slot becomes unlinked. No bundle: the root is no part of this.
 pub fn release(left: &mut [u32], right: &mut [u32], pc: &mut [u32], slot: Slot)
     requires { SlotIn left.old right.old pc.old slot.0 }
     ensures { Released left.old right.old pc.old slot.0
         left.new right.new pc.new }
 {
-    set_links(left, right, pc, slot, Slot(0), Slot(0), Slot(0), 0);
+    set_links(left, right, pc, slot, Slot(0), Slot(0), Slot(0), Color::Red);
 }
 
 // The key of a slot.
@@ -154,9 +137,7 @@ pub fn key_of(key: &[u64], slot: Slot) -> Key
     requires { SlotOf key.now slot.0 }
     ensures { result.0 ≡ at key.now slot.0 }
 {
-    let s = slot.0;
-    let at = s as usize - 1;
-    Key(key[at])
+    Key(key[slot.index()])
 }
 
 // The key of a slot becomes `value`.
@@ -164,9 +145,7 @@ pub fn set_key(key: &mut [u64], slot: Slot, value: Key)
     requires { SlotOf key.old slot.0 }
     ensures { SetKey key.old slot.0 value.0 key.new }
 {
-    let s = slot.0;
-    let at = s as usize - 1;
-    key[at] = value.0;
+    key[slot.index()] = value.0;
 }
 
 // The number of a slot in an array, whatever it is.
@@ -174,16 +153,7 @@ pub fn number_at(numbers: &[u32], slot: Slot) -> u32
     requires { SlotOf numbers.now slot.0 }
     ensures { result ≡ at numbers.now slot.0 }
 {
-    let s = slot.0;
-    let at = s as usize - 1;
-    numbers[at]
-}
-
-// Both of two tests, without a branch.
-pub fn both(a: bool, b: bool) -> bool
-    ensures { result ≡ (a && b) }
-{
-    if a { b } else { false }
+    numbers[slot.index()]
 }
 
 // One of two slots, without a branch.
