@@ -2,25 +2,22 @@
 // links::DEPTH, so that all of it is reached.
 #![tactic(auto)]
 
-ghost use Rattle.std.specs.Prelude.{length};
 ghost use Rattle.model.specs.Limits.{depth_limit};
-ghost use Rattle.theory.specs.Links.{links};
-ghost use Rattle.theory.specs.Places.{Bounded, Made};
+ghost use Rattle.theory.specs.Places.{Bounded};
 ghost use Rattle.theory.specs.Programs.{clear_all};
+ghost use Rattle.links.specs.Bundles.{Over, Made, links_in};
 ghost use Rattle.clearing.specs.Clearing.{Cleared};
 
-use links::types::Slot;
+use links::types::{Links, Slot};
 
 // The slots from this one down, to the depth, become unlinked: the left subtree, then the right, then the node itself.
+// Not a bundle: the root is no part of this, and a bundle would only add the promise that it stays.
 pub fn clear_recurse(left: &mut [u32], right: &mut [u32], pc: &mut [u32], slot: Slot, depth: u32)
     requires { Bounded left.old right.old pc.old slot.0 }
     ensures { Cleared depth left.old right.old pc.old slot.0
         left.new right.new pc.new }
 {
-    if depth == 0 {
-        return;
-    }
-    if slot.0 == 0 {
+    if depth == 0 || slot.0 == 0 {
         return;
     }
     let first = links::get(left, slot);
@@ -31,13 +28,11 @@ pub fn clear_recurse(left: &mut [u32], right: &mut [u32], pc: &mut [u32], slot: 
 }
 
 // The whole tree becomes unlinked, and the root none.
-pub fn clear(left: &mut [u32], right: &mut [u32], pc: &mut [u32], root: &mut u32)
-    requires { Bounded left.old right.old pc.old root.old }
-    ensures { Made
-        (clear_all depth_limit (links left.old right.old pc.old root.old))
-        (length left.old)
-        left.new right.new pc.new root.new }
+pub fn clear(tree: Links)
+    requires { Over Bounded tree }
+    ensures { Made (clear_all depth_limit (links_in tree.entry)) tree.entry tree.exit }
 {
+    let Links(left, right, pc, root) = tree;
     let top = *root;
     clear_recurse(left, right, pc, Slot(top), links::DEPTH);
     *root = 0;

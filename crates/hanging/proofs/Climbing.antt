@@ -22,6 +22,8 @@ use Rattle.theory.proofs.Sided.{sided_parent, sided_set_color}
 use Rattle.theory.proofs.Places.{spot_low, spot_high, spot_bounded, spot_parent, spot_far, spot_under, spot_up}
 use Rattle.theory.proofs.Places.{spot_side}
 use Rattle.theory.proofs.Depth.{spot_ups}
+use Rattle.std.specs.Prelude.{Some, None}
+use Rattle.links.specs.declared.types.Slot.{Slot}
 use Rattle.links.specs.Reads.{red_at}
 use Rattle.links.proofs.Colors.{spot_red}
 use Rattle.hanging.specs.Recolors.{red_or, grand_at, uncle_at, UnclePre, RedUncle, crown_at, recolor_at, RecolorPre}
@@ -201,34 +203,38 @@ module _ {left right pc pc' : List ℕ} {root x y : ℕ} (k : Ongoing left right
         grand = grand_at_lem now.way now.spot now.topped;
       }
 
-  module _ {u : ℕ} (uncle : RedUncle left right pc' y u) where
-    u_is : u ≡ red_uncle now.way
-    u_is = uncle.is ∙ uncle_at_lem now.way now.spot now.topped
-
-    pub post_finish : u ≡ 0 → FinishPre left right pc' root y
-    post_finish e = record { here = now; none = sym u_is ∙ e }
+  -- no red uncle
+  module _ (uncle : RedUncle left right pc' y None) where
+    pub post_finish : FinishPre left right pc' root y
+    post_finish = record { here = now; none = sym (uncle_at_lem now.way now.spot now.topped) ∙ uncle.is }
 
     -- the promise
-    pub post_done : {left₂ right₂ pc₂ : List ℕ} {root₂ : ℕ} → u ≡ 0
+    pub post_done : {left₂ right₂ pc₂ : List ℕ} {root₂ : ℕ}
         → Made (finish_in (links left right pc' root) y) (length left) left₂ right₂ pc₂ root₂
         → Made (post_insert (length left) (links left right pc root) x) (length left) left₂ right₂ pc₂ root₂
     unfolding now post_finish
-    post_done e m =
-        record { is = m.is ∙ finished_is (post_finish e) ∙ k.same; bounded = m.bounded; same = m.same }
+    post_done m = record { is = m.is ∙ finished_is post_finish ∙ k.same; bounded = m.bounded; same = m.same }
 
-    module _ (n : u ≡ 0 → ⊥) where
-      pub post_recolor : RecolorPre pc' y u
-      post_recolor = recolor_at_lem now.way u now.spot u_is n
+  -- a red uncle
+  module _ {u : Slot} (uncle : RedUncle left right pc' y (Some u)) where
+    u_is : u.0 ≡ red_uncle now.way
+    u_is = uncle.is.1 ∙ uncle_at_lem now.way now.spot now.topped
 
-      module _ {pc₂ : List ℕ} {z : ℕ} (m : Recolored pc' y u pc₂ z) where
-        next : Next left right pc₂ root now.size
-            (climb (node now.color now.left_tree y now.right_tree) now.way) now.way z
-        next = next_at now.way u z pc₂ now.spot now.topped u_is n m
+    u_some : u.0 ≡ 0 → ⊥
+    u_some e = omega (arith, uncle.is.0)
 
-        -- after a turn it still holds, with less left
-        pub post_on : Ongoing left right pc root x pc₂ z
-        unfolding now climbed
-        post_on = record { here = next.here; same = next.same ∙ k.same; long = m.same ∙ k.long }
+    pub post_recolor : RecolorPre pc' y u.0
+    post_recolor = recolor_at_lem now.way u.0 now.spot u_is u_some
 
-        pub post_less : steps_left left pc₂ z < steps_left left pc' y
-        post_less = omega (arith, next.less, spot_ups next.here.spot, spot_ups now.spot)
+    module _ {pc₂ : List ℕ} {z : ℕ} (m : Recolored pc' y u.0 pc₂ z) where
+      next : Next left right pc₂ root now.size
+          (climb (node now.color now.left_tree y now.right_tree) now.way) now.way z
+      next = next_at now.way u.0 z pc₂ now.spot now.topped u_is u_some m
+
+      -- after a turn it still holds, with less left
+      pub post_on : Ongoing left right pc root x pc₂ z
+      unfolding now climbed
+      post_on = record { here = next.here; same = next.same ∙ k.same; long = m.same ∙ k.long }
+
+      pub post_less : steps_left left pc₂ z < steps_left left pc' y
+      post_less = omega (arith, next.less, spot_ups next.here.spot, spot_ups now.spot)

@@ -6,7 +6,7 @@ use mathlib.Core.Path.{◌≡◌, refl, sym, ap, ◌∙◌}
 use lib.ListN.{length}
 use lib.Dec.{eqb}
 use native.Mathlib.Omega.{arith}
-use borrow.Author.Tests.{eq-eqb, ne_eqb}
+use borrow.Author.Tests.{ne_eqb}
 use Rattle.model.specs.Branch.{pick}
 use Rattle.model.specs.Tree.{Side, lft, rgt, Color, red, black, Tree, leaf, node, nod, top_of, is_red, Frame, frame}
 use Rattle.model.specs.Tree.{plug}
@@ -209,15 +209,17 @@ module _ {left right pc : List ℕ} {root x : ℕ} (k : PostInsertPre left right
             let j = spot_up (spot_up under.spot) in
             record { pos = spot_low j; top = spot_high j; below = (spot_bounded j).near_below }
 
-        module _ {y : ℕ} (first : Got left g y) where
-          pub finish_left : y ≡ q → FinishAtPre left right pc root x q
-          finish_left z = under_left under.outer under.spot (eq-eqb (at left g) q (sym first.is ∙ z))
+        module _ {y : ℕ} (first : Got left g y) {t : Bool} (same : t ≡ eqb y q) where
+          t_is : eqb (at left g) q ≡ t
+          t_is = rw (← first.is, ← same) refl
 
-          pub finish_right : (y ≡ q → ⊥) → FinishAtPre right left pc root x q
-          finish_right z = under_right under.outer under.spot (ne_eqb (at left g) q (λ i. z (first.is ∙ i)))
+          pub finish_left : t ≡ true → FinishAtPre left right pc root x q
+          finish_left z = under_left under.outer under.spot (t_is ∙ z)
 
-          finished_at : finish_in (links left right pc root) x
-              ≡ finish (pick (eqb y q) lft rgt) (links left right pc root) x q
+          pub finish_right : t ≡ false → FinishAtPre right left pc root x q
+          finish_right z = under_right under.outer under.spot (t_is ∙ z)
+
+          finished_at : finish_in (links left right pc root) x ≡ finish (pick t lft rgt) (links left right pc root) x q
           unfolding finish_in side_in
           finished_at =
               rw (
@@ -229,18 +231,18 @@ module _ {left right pc : List ℕ} {root x : ℕ} (k : PostInsertPre left right
                 sided_parent lft left right pc root q,
                 ← grand.is,
                 sided_near lft left right pc root g,
-                ← first.is,
+                t_is,
               ) refl
 
           -- the promise, with q on the left and on the right
-          pub finished_left : {left' right' pc' : List ℕ} {root' : ℕ} → y ≡ q
+          pub finished_left : {left' right' pc' : List ℕ} {root' : ℕ} → t ≡ true
               → Mirrored (finish_at x q) left right pc root left' right' pc' root'
               → Made (finish_in (links left right pc root) x) (length left) left' right' pc' root'
           unfolding finish_at
-          finished_left z m = rw (finished_at, eq-eqb y q z) (to_left m)
+          finished_left z m = rw (finished_at, z) (to_left m)
 
-          pub finished_right : {left' right' pc' : List ℕ} {root' : ℕ} → (y ≡ q → ⊥)
+          pub finished_right : {left' right' pc' : List ℕ} {root' : ℕ} → t ≡ false
               → Mirrored (finish_at x q) right left pc root right' left' pc' root'
               → Made (finish_in (links left right pc root) x) (length left) left' right' pc' root'
           unfolding finish_at
-          finished_right z m = rw (finished_at, ne_eqb y q z) (to_right m (sym (spot_bounded k.spot).same_far))
+          finished_right z m = rw (finished_at, z) (to_right m (sym (spot_bounded k.spot).same_far))

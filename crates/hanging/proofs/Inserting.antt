@@ -1,4 +1,4 @@
--- hang, insert_left, insert_right, insert_root and insert_at: each call's demands, and the promises.
+-- hang, insert_below, insert_root and insert_at: each call's demands, and the promises.
 use Prim.Native.Nat.{ℕ, ◌+◌, ◌*◌, ◌≤◌, ◌<◌}
 use mathlib.Core.List.{List, [], ◌∷◌}
 use mathlib.Core.Path.{◌≡◌, refl, sym, ap, ◌∙◌}
@@ -19,43 +19,28 @@ use Rattle.theory.proofs.Sided.{sided_set_near, sided_set_root}
 use Rattle.theory.proofs.Places.{above_high, swap, bounded, long}
 use Rattle.theory.proofs.Depth.{sound_deep}
 use Rattle.links.specs.Reads.{SlotIn}
-use Rattle.links.specs.Writes.{Set, SetPre, SetLinksPre, SetLinks}
+use Rattle.links.specs.Writes.{Set, SetLinksPre, SetLinks}
 use Rattle.hanging.specs.Climbs.{PostInsertPre}
 use Rattle.hanging.specs.Inserts.{HangPre, HangPost, Vacant, VacantBelow, Inserted}
 
 -- ---- hang
 
-module _ {near far pc : List ℕ} {p x : ℕ} (k : HangPre near far pc p x) where
-  -- what the calls ask for
-  pub hang_links : SetLinksPre near far pc x 0 0 p 0
-  hang_links =
-      record { slot = k.slot; first = omega arith; second = omega arith; parent = k.high; bit = omega arith }
+module _ {near far pc near₁ far₁ pc₁ : List ℕ} {p x : ℕ} (s : SetLinks near far pc x 0 0 p 0 near₁ far₁ pc₁) where
+  stored : (d : Side) (root : ℕ) → sided d near₁ far₁ pc₁ root ≡ store (sided d near far pc root) x 0 0 (2 * p + 0)
+  unfolding store set_child set_pc
+  stored lft root = s.is root
+  stored rgt root = ap (λ (z : Links). links z.right z.left z.pc z.root) (s.is root)
 
-  module _ {near₁ far₁ pc₁ : List ℕ} (s : SetLinks near far pc x 0 0 p 0 near₁ far₁ pc₁) where
-    pub hang_set : SetPre near₁ p x
-    hang_set =
-        record {
-          pos = k.low;
-          top = omega (arith, k.high, s.same_left);
-          below = s.left;
-          value = omega (arith, k.slot.top, s.same_left);
-        }
-
-    stored : (d : Side) (root : ℕ) → sided d near₁ far₁ pc₁ root ≡ store (sided d near far pc root) x 0 0 (2 * p + 0)
-    unfolding store set_child set_pc
-    stored lft root = s.is root
-    stored rgt root = ap (λ (z : Links). links z.right z.left z.pc z.root) (s.is root)
-
-    -- the promise
-    pub hang_done : {near₂ : List ℕ} → Set near₁ p x near₂ → HangPost near far pc p x near₂ far₁ pc₁
-    unfolding hang_in
-    hang_done g =
-        record {
-          is = λ d root. rw (← stored d root, sided_set_near d near₁ far₁ pc₁ root p x, ← g.is) refl;
-          same_near = g.same ∙ s.same_left;
-          same_far = s.same_right;
-          same_pc = s.same_pc;
-        }
+  -- the promise
+  pub hang_done : {near₂ : List ℕ} → Set near₁ p x near₂ → HangPost near far pc p x near₂ far₁ pc₁
+  unfolding hang_in
+  hang_done g =
+      record {
+        is = λ d root. rw (← stored d root, sided_set_near d near₁ far₁ pc₁ root p x, ← g.is) refl;
+        same_near = g.same ∙ s.same_left;
+        same_far = s.same_right;
+        same_pc = s.same_pc;
+      }
 
 -- ---- an empty place
 
@@ -96,7 +81,21 @@ module _ {left right pc : List ℕ} {root p : ℕ} {d : Side} {x : ℕ} (v : Vac
   topped : Topped v.way
   topped = balanced_topped leaf v.way v.balanced
 
--- ---- insert_left and insert_right
+-- ---- insert_below
+
+-- what hang leaves, with near as left or as right
+pub record Hung (left right pc : List ℕ) (d : Side) (p x : ℕ) (left₁ right₁ pc₁ : List ℕ) : Type 0 where
+  pub is : (root : ℕ) → links left₁ right₁ pc₁ root ≡ hang_in d (links left right pc root) p x
+  pub same : length left₁ ≡ length left
+
+module _ {left right pc left₁ right₁ pc₁ : List ℕ} {p x : ℕ} {d : Side} where
+  pub hung_left : d ≡ lft → HangPost left right pc p x left₁ right₁ pc₁
+      → Hung left right pc d p x left₁ right₁ pc₁
+  hung_left e m = record { is = λ root. rw e (m.is lft root); same = m.same_near }
+
+  pub hung_right : d ≡ rgt → HangPost right left pc p x right₁ left₁ pc₁
+      → Hung left right pc d p x left₁ right₁ pc₁
+  hung_right e m = record { is = λ root. rw e (m.is rgt root); same = m.same_far }
 
 module _ {left right pc : List ℕ} {root p : ℕ} {d : Side} {x : ℕ} (k : VacantBelow left right pc root p d x) where
   -- what hang asks for, on either side
@@ -114,8 +113,10 @@ module _ {left right pc : List ℕ} {root p : ℕ} {d : Side} {x : ℕ} (k : Vac
         high = omega (arith, p_high v, (all v).same_far);
       }
 
-  module _ {left₁ right₁ pc₁ : List ℕ}
-      (hung : links left₁ right₁ pc₁ root ≡ hang_in d (links left right pc root) p x) where
+  module _ {left₁ right₁ pc₁ : List ℕ} (m : Hung left right pc d p x left₁ right₁ pc₁) where
+    hung : links left₁ right₁ pc₁ root ≡ hang_in d (links left right pc root) p x
+    hung = m.is root
+
     -- what post_insert asks for
     pub post_ready : PostInsertPre left₁ right₁ pc₁ root x
     post_ready =
@@ -145,12 +146,12 @@ module _ {left right pc : List ℕ} {root p : ℕ} {d : Side} {x : ℕ} (k : Vac
         v.held v.fresh (topped v)
 
     -- the promise
-    pub inserted : {left' right' pc' : List ℕ} {root' : ℕ} → length left₁ ≡ length left
+    pub inserted : {left' right' pc' : List ℕ} {root' : ℕ}
         → Made (post_insert (length left₁) (links left₁ right₁ pc₁ root) x) (length left₁) left' right' pc' root'
         → Inserted left right pc root p d x left' right' pc' root'
-    inserted same m =
+    inserted done =
         record {
-          is = λ v. m.is ∙ ap (λ (z : Links). post_insert (length left₁) z x) hung ∙ by_parent
+          is = λ v. done.is ∙ ap (λ (z : Links). post_insert (length left₁) z x) hung ∙ by_parent
               (λ w. Drawn lft left right pc root v.size (plug leaf w) → count (plug leaf w) x ≡ 0 → Topped w
               → post_insert (length left₁) (hang_in d (links left right pc root) p x) x ≡ drawn v.size (hang x w))
               v.way p d v.held.sound v.over v.side
@@ -158,24 +159,23 @@ module _ {left right pc : List ℕ} {root p : ℕ} {d : Side} {x : ℕ} (k : Vac
               (λ low c s w held fresh o.
               ap (λ (z : Links). post_insert (length left₁) (hang_in d z p x) x) held.is
               ∙ insert_drawn d c p s w x v.low held.sound fresh (length left₁)
-              (omega (arith, same, long held, sound_deep leaf (frame d c p s ∷ w) held.sound)) v.high o)
+              (omega (arith, m.same, long held, sound_deep leaf (frame d c p s ∷ w) held.sound)) v.high o)
               v.held v.fresh (topped v);
-          bounded = m.bounded;
-          same = m.same ∙ same;
+          bounded = done.bounded;
+          same = done.same ∙ m.same;
         }
 
 -- ---- insert_root
 
 module _ {left right pc : List ℕ} {root x : ℕ} (k : Vacant left right pc root 0 rgt x) where
   -- what the call asks for
-  pub root_links : SetLinksPre left right pc x 0 0 0 1
+  pub root_links : SetLinksPre left right pc x 0 0 0
   root_links =
       record {
         slot = storable (all k) k.low (x_high k);
         first = omega arith;
         second = omega arith;
         parent = omega arith;
-        bit = omega arith;
       }
 
   -- the promise
@@ -229,13 +229,3 @@ module _ {left right pc : List ℕ} {root p x : ℕ} {d : Side} where
       → Inserted left right pc root p d x left' right' pc' root'
   unfolding at_root
   rooted e m = record { is = λ v. m.is (at_root e v); bounded = m.bounded; same = m.same }
-
-  -- with one, it is the side that the flag names
-  module _ {e : Side} (is : d ≡ e) where
-    pub at_side : (p ≡ 0 → ⊥) → Vacant left right pc root p d x → VacantBelow left right pc root p e x
-    at_side n v = record { vacant = rw is at v; some = omega arith }
-
-    pub inserted_side : {left' right' pc' : List ℕ} {root' : ℕ}
-        → Inserted left right pc root p e x left' right' pc' root'
-        → Inserted left right pc root p d x left' right' pc' root'
-    inserted_side m = rw is m

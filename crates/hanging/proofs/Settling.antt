@@ -1,11 +1,11 @@
 -- settle and finish_at: each call's demands, from what the calls before it left, and the promises.
 use Prim.Native.Nat.{ℕ}
+use mathlib.Core.Bool.{Bool, true, false}
 use mathlib.Core.List.{List, ◌∷◌}
 use mathlib.Core.Path.{◌≡◌, sym, ap, subst, ◌∙◌}
+use lib.Dec.{eqb}
 use native.Mathlib.Omega.{arith}
-use borrow.Author.Tests.{eq-eqb, ne_eqb}
 use Rattle.model.specs.Tree.{Side, Color, red, Tree, opp, Frame, frame}
-use Rattle.model.specs.Lent.{at}
 use Rattle.theory.specs.Links.{Links}
 use Rattle.theory.specs.Programs.{rotate_in, settle, finish}
 use Rattle.theory.specs.Places.{Bounded, Spot, Mirrored}
@@ -33,13 +33,12 @@ module _ {near far pc pc₁ : List ℕ} {root x p g : ℕ} (k : SettlePre near f
   g_grand = grand_is k.parent parent blackened grand
 
   -- what the calls ask for
-  pub settle_color : SetColorPre pc₁ g 0
+  pub settle_color : SetColorPre pc₁ g
   settle_color =
       record {
         pos = rw g_grand k.grand;
         top = grand.top;
         parents = blackened.parents;
-        value = omega arith;
         small = omega (arith, all.small, all.same_pc, blackened.same);
       }
 
@@ -111,16 +110,16 @@ module _ {near far pc : List ℕ} {root x q : ℕ} (k : FinishAtPre near far pc 
   pub finish_settle : SettlePre near far pc root x
   finish_settle = settling k.spot
 
-  module _ {y : ℕ} (outer : Got near q y) where
+  module _ {y : ℕ} (outer : Got near q y) {t : Bool} (same : t ≡ eqb y x) where
     -- an inner x
-    module _ (e : y ≡ x → ⊥) where
+    module _ (e : t ≡ false) where
       inner_spot : Spot k.side near far pc root k.size k.side k.color k.near_tree x k.far_tree
           (frame (opp k.side) red q k.sibling ∷ frame k.side k.grand_color k.grand k.uncle ∷ k.way)
       inner_spot =
           subst
           (λ (i : Side). Spot k.side near far pc root k.size k.side k.color k.near_tree x k.far_tree
           (frame i red q k.sibling ∷ frame k.side k.grand_color k.grand k.uncle ∷ k.way))
-          (same_no k.inner k.side (sym (spot_side k.spot) ∙ ne_eqb (at near q) x (λ z. e (outer.is ∙ z))))
+          (same_no k.inner k.side (sym (spot_side k.spot) ∙ rw (← outer.is, ← same) e))
           k.spot
 
       -- what the rotation asks for, and settle after it
@@ -163,19 +162,19 @@ module _ {near far pc : List ℕ} {root x q : ℕ} (k : FinishAtPre near far pc 
         unfolding finish_at settle_at finish rotate_at
         finished_inner m₁ =
             record {
-              is = λ d. rw (sided_near d near far pc root q, ← outer.is, ne_eqb y x e, ← m.is d) (m₁.is d);
+              is = λ d. rw (sided_near d near far pc root q, ← outer.is, ← same, e, ← m.is d) (m₁.is d);
               bounded = m₁.bounded;
               same = m₁.same ∙ m.same;
             }
 
     -- the promise at an outer x
-    pub finished_outer : {near' far' pc' : List ℕ} {root' : ℕ} → y ≡ x
+    pub finished_outer : {near' far' pc' : List ℕ} {root' : ℕ} → t ≡ true
         → Mirrored (settle_at x) near far pc root near' far' pc' root'
         → Mirrored (finish_at x q) near far pc root near' far' pc' root'
     unfolding finish_at settle_at finish
     finished_outer e m =
         record {
-          is = λ d. rw (sided_near d near far pc root q, ← outer.is, eq-eqb y x e) (m.is d);
+          is = λ d. rw (sided_near d near far pc root q, ← outer.is, ← same, e) (m.is d);
           bounded = m.bounded;
           same = m.same;
         }

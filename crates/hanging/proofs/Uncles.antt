@@ -3,10 +3,14 @@ use Prim.Native.Nat.{ℕ, ◌≤◌, ◌<◌}
 use mathlib.Core.Bool.{Bool, true, false}
 use mathlib.Core.List.{List}
 use mathlib.Core.Path.{◌≡◌, refl, sym, ap, ◌∙◌}
+use lib.Dec.{eqb}
 use lib.ListN.{length}
 use native.Mathlib.Omega.{arith}
 use borrow.Author.Tests.{eq-eqb, ne_eqb}
+use Rattle.std.specs.Prelude.{Option, None}
+use Rattle.std.specs.Bool.{then_some}
 use Rattle.theory.specs.Slots.{parent_at}
+use Rattle.links.specs.declared.types.Slot.{Slot}
 use Rattle.theory.proofs.Slots.{parent_put_color}
 use Rattle.links.specs.Reads.{GetPre, Got, ParentPre, GotParent, red_at, GotRed}
 use Rattle.links.specs.Writes.{SetColor}
@@ -14,16 +18,15 @@ use Rattle.links.proofs.Colors.{red_some}
 use Rattle.hanging.specs.Recolors.{red_or, RedOrNone, grand_at, uncle_at, UnclePre, RedUncle, crown_at, PaintPre}
 use Rattle.hanging.specs.Recolors.{Painted, recolor_at, RecolorPre, Recolored}
 
--- ---- red_or_none, by either branch
+-- ---- red_or_none
 
-module _ {pc : List ℕ} {s : ℕ} {b : Bool} (test : GotRed pc s b) where
-  pub or_red : s ≤ length pc → b ≡ true → RedOrNone pc s s
-  unfolding red_or
-  or_red high e = record { is = rw (← test.is, e) refl; top = high }
-
-  pub or_none : b ≡ false → RedOrNone pc s 0
-  unfolding red_or
-  or_none e = record { is = rw (← test.is, e) refl; top = omega arith }
+pub or_found : {pc : List ℕ} {s : Slot} (b : Bool) {found : Option Slot} → GotRed pc s.0 b → s.0 ≤ length pc
+    → found ≡ then_some b s → RedOrNone pc s.0 found
+unfolding red_or
+or_found {pc} {s} true test high e =
+    rw e (record { is = (red_some pc s.0 (sym test.is), rw (← test.is) refl); top = rw (← test.is) high })
+or_found false test high e =
+    rw e (record { is = rw (← test.is) refl; top = rw (← test.is) (omega arith) })
 
 -- ---- red_uncle: the parent p of x, the grandparent g, its left child a
 
@@ -33,9 +36,9 @@ module _ {left right pc : List ℕ} {x p : ℕ} {b : Bool} (k : UnclePre left ri
   p_red = test.is ∙ ap (red_at pc) parent.is
 
   -- a black parent
-  pub uncle_none : b ≡ false → RedUncle left right pc x 0
+  pub uncle_none : b ≡ false → RedUncle left right pc x None
   unfolding uncle_at
-  uncle_none e = record { is = rw (← p_red, e) refl; top = omega arith }
+  uncle_none e = record { is = rw (← p_red, e) refl; top = rw (← p_red, e) (omega arith) }
 
   module _ (e : b ≡ true) where
     -- what the calls below a red parent ask for
@@ -58,22 +61,20 @@ module _ {left right pc : List ℕ} {x p : ℕ} {b : Bool} (k : UnclePre left ri
           record { pos = g_low; top = omega (arith, grand.top, k.same_pc, k.same_right); below = k.right_below }
 
       -- the promise, with the uncle on the right and on the left
-      module _ {a : ℕ} (first : Got left g a) where
-        pub uncle_right : {u found : ℕ} → a ≡ p → Got right g u → RedOrNone pc u found → RedUncle left right pc x found
+      module _ {a : ℕ} (first : Got left g a) {t : Bool} (same : t ≡ eqb a p) {found : Option Slot} where
+        pub uncle_right : {u : ℕ} → t ≡ true → Got right g u → RedOrNone pc u found → RedUncle left right pc x found
         unfolding uncle_at
-        uncle_right z second m =
-            record {
-              is = rw (← p_red, e, ← g_is, ← parent.is, ← first.is, eq-eqb a p z, ← second.is) m.is;
-              top = omega (arith, m.top, k.same_pc);
-            }
+        uncle_right {u} z second m =
+            let is : uncle_at left right pc x ≡ red_or pc u
+            = rw (← p_red, e, ← g_is, ← parent.is, ← first.is, ← same, z, ← second.is) refl in
+            record { is = rw is m.is; top = rw is (omega (arith, m.top, k.same_pc)) }
 
-        pub uncle_left : {found : ℕ} → (a ≡ p → ⊥) → RedOrNone pc a found → RedUncle left right pc x found
+        pub uncle_left : t ≡ false → RedOrNone pc a found → RedUncle left right pc x found
         unfolding uncle_at
         uncle_left z m =
-            record {
-              is = rw (← p_red, e, ← g_is, ← parent.is, ← first.is, ne_eqb a p z) m.is;
-              top = omega (arith, m.top, k.same_pc);
-            }
+            let is : uncle_at left right pc x ≡ red_or pc a
+            = rw (← p_red, e, ← g_is, ← parent.is, ← first.is, ← same, z) refl in
+            record { is = rw is m.is; top = rw is (omega (arith, m.top, k.same_pc)) }
 
 -- ---- paint_top, by either branch
 

@@ -1,4 +1,4 @@
--- hang, insert_left, insert_right, insert_root and insert_at: what each requires, and what it leaves.
+-- hang, insert_below, insert_root and insert_at: what each requires, and what it leaves.
 use Rattle.std.specs.Prelude.{ℕ, ◌≤◌, ◌<◌, List, ◌≡◌, length}
 use Rattle.model.specs.Tree.{Side, lft, leaf, Frame, plug, above, side_of}
 use Rattle.model.specs.Hanging.{hang}
@@ -8,6 +8,8 @@ use Rattle.theory.specs.Links.{links, drawn}
 use Rattle.theory.specs.Programs.{hang_in}
 use Rattle.theory.specs.Sided.{sided}
 use Rattle.theory.specs.Places.{Bounded, Drawn}
+use Rattle.links.specs.declared.types.Links.{Links}
+use Rattle.links.specs.Bundles.{LinksLeft}
 use Rattle.links.specs.Reads.{SlotIn}
 
 -- ---- hang
@@ -51,3 +53,8 @@ pub record Inserted (left right pc : List ℕ) (root parent : ℕ) (d : Side) (x
       → links left' right' pc' root' ≡ drawn v.size (hang x v.way)
   pub bounded : Bounded left' right' pc' root'
   pub same : length left' ≡ length left
+
+-- the same of a bundle, from the entry to the exit
+abbrev pub InsertedIn : Links → (parent : ℕ) → Side → (x : ℕ) → LinksLeft → Type 0
+InsertedIn k parent d x e =
+    Inserted k.0.now k.1.now k.2.now k.3.now parent d x e.0.now e.1.0.now e.1.1.0.now e.1.1.1.0.now

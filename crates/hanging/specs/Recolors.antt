@@ -1,19 +1,20 @@
 -- red_or_none, red_uncle, paint_top and recolor: what each requires, tells or leaves.
-use Rattle.std.specs.Prelude.{ℕ, ◌≤◌, ◌<◌, true, List, ◌≡◌, length, eqb}
+use Rattle.std.specs.Prelude.{ℕ, ◌≤◌, ◌<◌, true, Option, List, ◌≡◌, length, eqb}
 use Rattle.model.specs.Limits.{capacity_limit}
 use Rattle.model.specs.Branch.{pick}
 use Rattle.model.specs.Lent.{at}
 use Rattle.theory.specs.Slots.{parent_at, put_color, Below, Parents}
-use Rattle.links.specs.Reads.{red_at}
+use Rattle.links.specs.declared.types.Slot.{Slot}
+use Rattle.links.specs.Reads.{red_at, SlotOrNone}
 
 -- ---- red_or_none
 
 unfoldable pub red_or : (pc : List ℕ) → (slot : ℕ) → ℕ
 red_or pc s = pick (red_at pc s) s 0
 
-pub record RedOrNone (pc : List ℕ) (s found : ℕ) : Type 0 where
-  pub is : found ≡ red_or pc s
-  pub top : found ≤ length pc
+pub record RedOrNone (pc : List ℕ) (s : ℕ) (found : Option Slot) : Type 0 where
+  pub is : SlotOrNone found (red_or pc s)
+  pub top : red_or pc s ≤ length pc
 
 -- ---- red_uncle
 
@@ -38,9 +39,9 @@ pub record UnclePre (left right pc : List ℕ) (x : ℕ) : Type 0 where
   pub high : x ≤ length left
   pub grand : red_at pc (parent_at pc x) ≡ true → 0 < grand_at pc x
 
-pub record RedUncle (left right pc : List ℕ) (x found : ℕ) : Type 0 where
-  pub is : found ≡ uncle_at left right pc x
-  pub top : found ≤ length left
+pub record RedUncle (left right pc : List ℕ) (x : ℕ) (found : Option Slot) : Type 0 where
+  pub is : SlotOrNone found (uncle_at left right pc x)
+  pub top : uncle_at left right pc x ≤ length left
 
 -- ---- paint_top: red, but black where the slot has no parent
 

@@ -1,11 +1,10 @@
 -- sink_end: each call's demands, from what the calls before it left, and the promise.
 use Prim.Native.Nat.{ℕ}
-use mathlib.Core.Bool.{Bool}
+use mathlib.Core.Bool.{Bool, true, false}
 use mathlib.Core.List.{List}
 use mathlib.Core.Path.{◌≡◌, sym, ◌∙◌}
 use lib.ListN.{length}
 use lib.Dec.{eqb}
-use borrow.Author.Tests.{eq-eqb, ne_eqb}
 use Rattle.model.specs.Branch.{pick}
 use Rattle.model.specs.Tree.{Side, lft, rgt, opp, same_side}
 use Rattle.theory.specs.Links.{links, children, side_in}
@@ -57,18 +56,18 @@ module _ {left right pc : List ℕ} {root slot : ℕ} (pre : Lacking left right 
       is = pre.is;
     })
 
-    module _ {child : ℕ} (first : Got left parent child) where
-      side_is : pre.side ≡ opp (pick (eqb child slot) lft rgt)
-      side_is = side_by pre.side (eqb child slot) (rw (first.is, parent_is) (spot_side (lack_beside pre).spot))
+    module _ {child : ℕ} (first : Got left parent child) {test : Bool} (tested : test ≡ eqb child slot) where
+      side_is : pre.side ≡ opp (pick test lft rgt)
+      side_is = side_by pre.side test (rw (tested, first.is, parent_is) (spot_side (lack_beside pre).spot))
 
-      pub end_left : (child ≡ slot → ⊥) → SinkAtPre left right pc root slot parent
-      end_left apart = end_sink lft (side_is ∙ rw (ne_eqb child slot apart))
+      pub end_left : test ≡ false → SinkAtPre left right pc root slot parent
+      end_left apart = end_sink lft (side_is ∙ rw apart)
 
-      pub end_right : child ≡ slot → SinkAtPre right left pc root slot parent
-      end_right same = end_sink rgt (side_is ∙ rw (eq-eqb child slot same))
+      pub end_right : test ≡ true → SinkAtPre right left pc root slot parent
+      end_right same = end_sink rgt (side_is ∙ rw same)
 
       end_by : sink_end (links left right pc root) slot
-          ≡ sink_at (opp (pick (eqb child slot) lft rgt)) (links left right pc root) slot parent
+          ≡ sink_at (opp (pick test lft rgt)) (links left right pc root) slot parent
       unfolding sink_end side_in
       end_by =
           rw (
@@ -76,15 +75,16 @@ module _ {left right pc : List ℕ} {root slot : ℕ} (pre : Lacking left right 
             ← up.is,
             sided_near lft left right pc root parent,
             ← first.is,
+            ← tested,
           )
 
-      pub ended_left : {left' right' pc' : List ℕ} {root' : ℕ} → (child ≡ slot → ⊥)
+      pub ended_left : {left' right' pc' : List ℕ} {root' : ℕ} → test ≡ false
           → Mirrored (λ d k. sink_at d k slot parent) left right pc root left' right' pc' root'
           → Made (sink_end (links left right pc root) slot) (length left) left' right' pc' root'
-      ended_left apart made = rw (end_by, ne_eqb child slot apart) (to_left made)
+      ended_left apart made = rw (end_by, apart) (to_left made)
 
-      pub ended_right : {left' right' pc' : List ℕ} {root' : ℕ} → child ≡ slot
+      pub ended_right : {left' right' pc' : List ℕ} {root' : ℕ} → test ≡ true
           → Mirrored (λ d k. sink_at d k slot parent) right left pc root right' left' pc' root'
           → Made (sink_end (links left right pc root) slot) (length left) left' right' pc' root'
       ended_right same made =
-          rw (end_by, eq-eqb child slot same) (to_right made (sym (spot_bounded (lack_beside pre).spot).same_far))
+          rw (end_by, same) (to_right made (sym (spot_bounded (lack_beside pre).spot).same_far))

@@ -80,11 +80,11 @@ module _ {near far pc : List ℕ} {root sibling parent : ℕ} (pre : LowerEndPre
   pub lower_red_2 : {inner : ℕ} → Got near sibling inner → inner ≤ length pc
   lower_red_2 got-inner = omega (arith, got-inner.top, all.same_pc)
 
-  pub lower_color : SetColorPre pc sibling 0
-  lower_color = in_set_color (spot_in pre.spot) (omega arith)
+  pub lower_color : SetColorPre pc sibling
+  lower_color = in_set_color (spot_in pre.spot)
 
-  pub lower_color_2 : {pc₁ : List ℕ} → SetColor pc sibling 0 pc₁ → SetColorPre pc₁ parent 1
-  lower_color_2 painted = in_set_color (in_painted (spot_in (spot_up pre.spot)) painted) (omega arith)
+  pub lower_color_2 : {pc₁ : List ℕ} → SetColor pc sibling 0 pc₁ → SetColorPre pc₁ parent
+  lower_color_2 painted = in_set_color (in_painted (spot_in (spot_up pre.spot)) painted)
 
   module _ {outer : ℕ} {outer-red : Bool} (got-outer : Got far sibling outer)
       (tested-outer : GotRed pc outer outer-red) where
@@ -153,12 +153,12 @@ module _ {near far pc : List ℕ} {root sibling parent : ℕ} (pre : LowerEndPre
 -- ---- red_turn: the sibling stands where its parent was, and that below it, with the inner child as its far one
 
 module _ {near far pc : List ℕ} {root sibling parent : ℕ} (pre : RedTurnPre near far pc root sibling parent) where
-  pub red_color : SetColorPre pc sibling 1
-  red_color = in_set_color (spot_in pre.spot) (omega arith)
+  pub red_color : SetColorPre pc sibling
+  red_color = in_set_color (spot_in pre.spot)
 
   module _ {pc₁ : List ℕ} (painted₁ : SetColor pc sibling 1 pc₁) where
-    pub red_color_2 : SetColorPre pc₁ parent 0
-    red_color_2 = in_set_color (in_painted (spot_in (spot_up pre.spot)) painted₁) (omega arith)
+    pub red_color_2 : SetColorPre pc₁ parent
+    red_color_2 = in_set_color (in_painted (spot_in (spot_up pre.spot)) painted₁)
 
     module _ {pc₂ : List ℕ} (painted₂ : SetColor pc₁ parent 0 pc₂) where
       pub red_rotate : RotatePre near far pc₂ root parent

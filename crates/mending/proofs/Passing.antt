@@ -2,16 +2,18 @@
 use Prim.Native.Nat.{ℕ}
 use mathlib.Core.Bool.{Bool, true, false, ◌||◌}
 use mathlib.Core.List.{List}
-use mathlib.Core.Path.{◌≡◌, refl}
+use mathlib.Core.Path.{◌≡◌, refl, sym}
 use lib.Dec.{eqb}
 use native.Mathlib.Omega.{arith}
 use borrow.Author.Tests.{eq-eqb, ne_eqb}
+use Rattle.std.specs.Prelude.{Option, None}
 use Rattle.model.specs.Branch.{pick}
 use Rattle.model.specs.Tree.{lft, rgt, opp}
 use Rattle.theory.specs.Links.{links, child_in, side_in, red_in}
 use Rattle.theory.specs.Programs.{sibling_in}
 use Rattle.theory.proofs.Sided.{sided_near, sided_far, sided_parent}
-use Rattle.links.specs.Reads.{SlotIn, Got, GotParent, GotRed}
+use Rattle.links.specs.declared.types.Slot.{Slot}
+use Rattle.links.specs.Reads.{SlotIn, Got, GotParent, GotRed, SlotOrNone}
 use Rattle.links.proofs.Reading.{sided_red}
 use Rattle.mending.specs.Passes.{Sibling, red_below, RedChild, pass_in, PassPre, Passed}
 
@@ -26,10 +28,11 @@ module _ {left right pc : List ℕ} {slot parent : ℕ} (pre : SlotIn left right
       top = omega arith;
     }
 
-    module _ (some : parent ≡ 0 → ⊥) {child : ℕ} (first : Got left parent child) where
+    module _ (some : parent ≡ 0 → ⊥) {child : ℕ} (first : Got left parent child) {test : Bool}
+        (tested : test ≡ eqb child slot) where
       -- the model's choice, by what was read
       sibling_by : (root : ℕ) → sibling_in (links left right pc root) slot
-          ≡ child_in (opp (pick (eqb child slot) lft rgt)) (links left right pc root) parent
+          ≡ child_in (opp (pick test lft rgt)) (links left right pc root) parent
       unfolding sibling_in side_in
       sibling_by root = rw (
         sided_parent lft left right pc root slot,
@@ -37,18 +40,18 @@ module _ {left right pc : List ℕ} {slot parent : ℕ} (pre : SlotIn left right
         ne_eqb parent 0 some,
         sided_near lft left right pc root parent,
         ← first.is,
+        ← tested,
       )
 
-      pub sibling_right : {found : ℕ} → child ≡ slot → Got right parent found → Sibling left right pc slot found
+      pub sibling_right : {found : ℕ} → test ≡ true → Got right parent found → Sibling left right pc slot found
       sibling_right same second = record {
-        is = λ root. rw (sibling_by root, eq-eqb child slot same, sided_far lft left right pc root parent) second.is;
+        is = λ root. rw (sibling_by root, same, sided_far lft left right pc root parent) second.is;
         top = omega (arith, second.top, pre.lr);
       }
 
-      pub sibling_left : (child ≡ slot → ⊥) → Sibling left right pc slot child
+      pub sibling_left : test ≡ false → Sibling left right pc slot child
       sibling_left apart = record {
-        is = λ root.
-            rw (sibling_by root, ne_eqb child slot apart, sided_near lft left right pc root parent) first.is;
+        is = λ root. rw (sibling_by root, apart, sided_near lft left right pc root parent) first.is;
         top = first.top;
       }
 
@@ -62,7 +65,7 @@ module _ {left pc : List ℕ} {slot child : ℕ} {red : Bool} (first : Got left 
     child_by right root =
         rw (sided_near lft left right pc root slot, ← first.is, sided_red lft left right pc root child, ← tested.is)
 
-    pub child_left : {right : List ℕ} → red ≡ true → RedChild left right pc slot true
+    pub child_left : {right : List ℕ} → red ≡ true → RedChild left right pc slot red
     child_left {right} is-red = record { is = λ root. rw (child_by right root, is-red) refl }
 
     pub child_right : {right : List ℕ} {other : ℕ} {red₂ : Bool} → red ≡ false → Got right slot other
@@ -79,28 +82,27 @@ module _ {left pc : List ℕ} {slot child : ℕ} {red : Bool} (first : Got left 
 
 -- ---- pass
 
+pass_none : {left right pc : List ℕ} {slot : ℕ} → ((root : ℕ) → pass_in (links left right pc root) slot ≡ 0)
+    → Passed left right pc slot None
+pass_none is = record { is = is; top = λ root. rw (is root) (omega arith) }
+
 module _ {left right pc : List ℕ} {slot : ℕ} {red : Bool} (pre : PassPre left right pc slot)
     (tested : GotRed pc slot red) where
-  pub pass_red : red ≡ true → Passed left right pc slot 0
+  red_by : red ≡ true → (root : ℕ) → pass_in (links left right pc root) slot ≡ 0
   unfolding pass_in
-  pass_red is-red = record {
-    is = λ root. rw (sided_red lft left right pc root slot, ← tested.is, is-red) refl;
-    top = omega arith;
-  }
+  red_by is-red root = rw (sided_red lft left right pc root slot, ← tested.is, is-red) refl
+
+  pub pass_red : red ≡ true → Passed left right pc slot None
+  pass_red is-red = pass_none (red_by is-red)
 
   module _ (none : red ≡ false) {below : Bool} (child : RedChild left right pc slot below) where
-    pub pass_child : below ≡ true → Passed left right pc slot 0
+    child_by_red : below ≡ true → (root : ℕ) → pass_in (links left right pc root) slot ≡ 0
     unfolding pass_in
-    pass_child is-red = record {
-      is = λ root. rw (
-        sided_red lft left right pc root slot,
-        ← tested.is,
-        none,
-        ← child.is root,
-        is-red,
-      ) refl;
-      top = omega arith;
-    }
+    child_by_red is-red root =
+        rw (sided_red lft left right pc root slot, ← tested.is, none, ← child.is root, is-red) refl
+
+    pub pass_child : below ≡ true → Passed left right pc slot None
+    pass_child is-red = pass_none (child_by_red is-red)
 
     module _ (none_below : below ≡ false) {parent : ℕ} (up : GotParent pc slot parent) {above : Bool}
         (tested₂ : GotRed pc parent above) where
@@ -119,9 +121,12 @@ module _ {left right pc : List ℕ} {slot : ℕ} {red : Bool} (pre : PassPre lef
         ← tested₂.is,
       )
 
-      pub pass_parent : above ≡ true → Passed left right pc slot 0
-      pass_parent is-red = record { is = λ root. rw (pass_by root, is-red) refl; top = omega arith }
+      pub pass_parent : above ≡ true → Passed left right pc slot None
+      pass_parent is-red = pass_none (λ root. rw (pass_by root, is-red) refl)
 
-      pub passed : {next : ℕ} → above ≡ false → Sibling left right pc parent next → Passed left right pc slot next
-      passed none_above found =
-          record { is = λ root. rw (pass_by root, none_above) (found.is root); top = found.top }
+      pub passed : {found : ℕ} {next : Option Slot} → above ≡ false → Sibling left right pc parent found
+          → SlotOrNone next found → Passed left right pc slot next
+      passed {found} {next} none_above sibling told =
+          let is : (root : ℕ) → pass_in (links left right pc root) slot ≡ found
+          = λ root. rw (pass_by root, none_above) (sym (sibling.is root)) in
+          record { is = λ root. rw (is root) told; top = λ root. rw (is root) sibling.top }

@@ -5,6 +5,7 @@ use mathlib.Core.List.{List, [], ◌∷◌}
 use mathlib.Core.Path.{◌≡◌, refl, sym, ap, ◌∙◌}
 use lib.ListN.{length}
 use native.Mathlib.Omega.{arith}
+use Rattle.std.specs.Prelude.{Some, None}
 use Rattle.model.specs.Branch.{pick}
 use Rattle.model.specs.Tree.{lft, red, Tree, nod, top_of, paint, Frame, frame, plug}
 use Rattle.model.specs.Removal.{refill}
@@ -19,6 +20,7 @@ use Rattle.theory.proofs.Refilling.{sink_drawn}
 use Rattle.theory.proofs.Rounds.{passes_tests, refill_pass, sink_end_drawn}
 use Rattle.theory.proofs.Depth.{sound_deep, spot_ups}
 use Rattle.theory.proofs.Places.{long, spot_low, spot_parent, spot_up}
+use Rattle.links.specs.declared.types.Slot.{Slot}
 use Rattle.links.specs.Writes.{SetColorPre, SetColor}
 use Rattle.links.proofs.Spots.{spot_in, in_set_color}
 use Rattle.mending.specs.Passes.{pass_in, PassPre, Passed}
@@ -91,52 +93,60 @@ module _ {left right pc pc₁ : List ℕ} {root slot here : ℕ} (inv : Refillin
       let spot = (lack_beside lack).spot in
       record { slot = spot_in spot; parent = rw (spot_parent spot) (spot_low (spot_up spot)) }
 
-  pub refill_color : SetColorPre pc₁ here 0
-  refill_color = in_set_color (spot_in (lack_beside lack).spot) (omega arith)
+  pub refill_color : SetColorPre pc₁ here
+  refill_color = in_set_color (spot_in (lack_beside lack).spot)
 
-  module _ {next : ℕ} (told : Passed left right pc₁ here next) where
-    next_is : next ≡ pick (passes (path lack)) (sibling_of lack.way) 0
-    next_is = told.is root ∙ (λ i. pass_in (lack.held.is i) (lack.is i))
-        ∙ pass_drawn lack.side lack.color lack.parent lack.place lack.way lack.sibling
-        lack.solid.0 lack.held.sound
+  pass_is : pass_in (links left right pc₁ root) here ≡ pick (passes (path lack)) (sibling_of lack.way) 0
+  pass_is = (λ i. pass_in (lack.held.is i) (lack.is i))
+      ∙ pass_drawn lack.side lack.color lack.parent lack.place lack.way lack.sibling lack.solid.0 lack.held.sound
 
-    last : next ≡ 0 → passes (path lack) ≡ false
-    last e = by-test (passes (path lack))
+  -- the climb ends here
+  module _ (told : Passed left right pc₁ here None) where
+    last : passes (path lack) ≡ false
+    last = by-test (passes (path lack))
         (λ is.
         let low = next_low (nod lack.side lack.color lack.place lack.parent lack.sibling) lack.color
         lack.way (passes_tests lack.side lack.color lack.parent lack.sibling lack.way is).2
         lack.solid.1 lack.held.sound in
-        let same : next ≡ sibling_of lack.way = next_is ∙ rw is refl in
+        let same : 0 ≡ sibling_of lack.way = sym (told.is root) ∙ pass_is ∙ rw is refl in
         absurd (omega arith))
         (λ is. is)
 
-    pub refill_last : next ≡ 0 → SinkEndPre left right pc₁ root here
-    refill_last e = record { lacking = lack; last = last e }
+    pub refill_last : SinkEndPre left right pc₁ root here
+    refill_last = record { lacking = lack; last = last }
 
-    pub refill_done : {left' right' pc' : List ℕ} {root' : ℕ} → next ≡ 0
+    pub refill_done : {left' right' pc' : List ℕ} {root' : ℕ}
         → Made (sink_end (links left right pc₁ root) here) (length left) left' right' pc' root'
         → Made (post_remove (length left) (links left right pc root) slot) (length left) left' right' pc' root'
     unfolding lack
-    refill_done none made =
+    refill_done made =
         let ended : sink_end (links left right pc₁ root) here ≡ refilled lack
         = (λ i. sink_end (lack.held.is i) (lack.is i))
-        ∙ sink_end_drawn lack.side lack.color lack.parent lack.sibling lack.place lack.way (last none)
+        ∙ sink_end_drawn lack.side lack.color lack.parent lack.sibling lack.place lack.way last
         lack.solid.0 lack.held.sound in
         record { is = made.is ∙ ended ∙ inv.same; bounded = made.bounded; same = made.same }
 
-    module _ (some : next ≡ 0 → ⊥) {pc₂ : List ℕ} (painted : SetColor pc₁ here 0 pc₂) where
+  -- it goes on at the next sibling
+  module _ {next : Slot} (told : Passed left right pc₁ here (Some next)) where
+    next_is : next.0 ≡ pick (passes (path lack)) (sibling_of lack.way) 0
+    next_is = (told.is root).1 ∙ pass_is
+
+    some : next.0 ≡ 0 → ⊥
+    some e = omega (arith, (told.is root).0)
+
+    module _ {pc₂ : List ℕ} (painted : SetColor pc₁ here 0 pc₂) where
       goes : passes (path lack) ≡ true
       goes = by-test (passes (path lack)) (λ is. is) (λ is. absurd (some (next_is ∙ rw is refl)))
 
       raised : Tree
       raised = nod lack.side lack.color lack.place lack.parent (paint red lack.sibling)
 
-      gone : Onward left right pc₂ root lack.size raised lack.way next
+      gone : Onward left right pc₂ root lack.size raised lack.way next.0
       unfolding raised
       gone =
           let red = red_sibling lack.side lack.color lack.parent lack.place lack.way lack.sibling
           lack.solid.0 lack.held.sound in
-          onward raised lack.way next
+          onward raised lack.way next.0
           (record {
             is = ap (λ (p : List ℕ). links left right p root) painted.is
                 ∙ sym (sided_set_color lft left right pc₁ root here 0)
@@ -146,7 +156,7 @@ module _ {left right pc pc₁ : List ℕ} {root slot here : ℕ} (inv : Refillin
           })
           lack.solid.1 (next_is ∙ rw goes refl) some
 
-      pub refill_on : Refilling left right pc root slot pc₂ next
+      pub refill_on : Refilling left right pc root slot pc₂ next.0
       unfolding lack raised
       refill_on = record {
         lacking = gone.lacking;
@@ -157,6 +167,6 @@ module _ {left right pc pc₁ : List ℕ} {root slot here : ℕ} (inv : Refillin
         long = painted.same ∙ inv.long;
       }
 
-      pub refill_less : steps_left left pc₂ next < steps_left left pc₁ here
+      pub refill_less : steps_left left pc₂ next.0 < steps_left left pc₁ here
       refill_less =
           omega (arith, gone.steps, spot_ups (lack_beside gone.lacking).spot, spot_ups (lack_beside lack).spot)

@@ -123,9 +123,6 @@ module _ {near far pc : List ℕ} {root sibling parent : ℕ} (pre : SinkAtPre n
           sink_parent = in_parent (spot_in turned.lower.spot)
 
           module _ {above : ℕ} (up : GotParent pc₁ new above) where
-            pub sink_lower_2 : LowerEndPre near₁ far₁ pc₁ root₁ new above
-            sink_lower_2 = rw up.is turned.lower
-
             pub sunk_red : {near' far' pc' : List ℕ} {root' : ℕ}
                 → Mirrored (λ d k. lower_end d k new above) near₁ far₁ pc₁ root₁ near' far' pc' root'
                 → Mirrored (λ d k. sink_at d k sibling parent) near far pc root near' far' pc' root'

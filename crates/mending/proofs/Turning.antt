@@ -30,14 +30,6 @@ module _ {near far pc pc₁ pc₂ pc₃ : List ℕ} {root sibling parent color o
     (painted₁ : SetColor pc sibling color pc₁) (painted₂ : SetColor pc₁ parent 1 pc₂)
     (got-outer : Got far sibling outer) (painted₃ : SetColor pc₂ outer 1 pc₃)
   where
-    pub far_rotate : RotatePre near far pc₃ root parent
-    far_rotate = record {
-      bounded = bounded_painted (bounded_painted (bounded_painted pre.bounded painted₁) painted₂) painted₃;
-      low = pre.parent_low;
-      high = pre.parent_high;
-      child = pre.child;
-    }
-
     pub far_turned : {near' far' pc' : List ℕ} {root' : ℕ}
         → Mirrored (rotate_at parent) near far pc₃ root near' far' pc' root'
         → Mirrored (λ d k. far_turn d k sibling parent) near far pc root near' far' pc' root'
@@ -82,12 +74,12 @@ module _ {near far pc : List ℕ} {root sibling inner : ℕ} (pre : NearTurnPre 
   all : Bounded near far pc root
   all = spot_bounded pre.spot
 
-  pub near_color : SetColorPre pc inner 1
-  near_color = in_set_color (spot_in pre.spot) (omega arith)
+  pub near_color : SetColorPre pc inner
+  near_color = in_set_color (spot_in pre.spot)
 
   module _ {pc₁ : List ℕ} (painted₁ : SetColor pc inner 1 pc₁) where
-    pub near_color_2 : SetColorPre pc₁ sibling 0
-    near_color_2 = in_set_color (in_painted (spot_in (spot_up pre.spot)) painted₁) (omega arith)
+    pub near_color_2 : SetColorPre pc₁ sibling
+    near_color_2 = in_set_color (in_painted (spot_in (spot_up pre.spot)) painted₁)
 
     module _ {pc₂ : List ℕ} (painted₂ : SetColor pc₁ sibling 0 pc₂) where
       pub near_rotate : RotatePre far near pc₂ root sibling

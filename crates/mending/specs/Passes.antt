@@ -1,11 +1,12 @@
 -- sibling, has_red_child and pass: what each requires, and what it tells.
-use Rattle.std.specs.Prelude.{ℕ, ◌≤◌, ◌<◌, Bool, ◌||◌, List, ◌≡◌, length}
+use Rattle.std.specs.Prelude.{ℕ, ◌≤◌, ◌<◌, Bool, ◌||◌, Option, List, ◌≡◌, length}
 use Rattle.model.specs.Branch.{pick}
 use Rattle.model.specs.Tree.{lft, rgt}
 use Rattle.theory.specs.Slots.{parent_at}
 use Rattle.theory.specs.Links.{Links, links, child_in, parent_in, red_in}
 use Rattle.theory.specs.Programs.{sibling_in}
-use Rattle.links.specs.Reads.{SlotIn}
+use Rattle.links.specs.declared.types.Slot.{Slot}
+use Rattle.links.specs.Reads.{SlotIn, SlotOrNone}
 
 -- ---- sibling
 
@@ -33,6 +34,6 @@ pub record PassPre (left right pc : List ℕ) (s : ℕ) : Type 0 where
   pub slot : SlotIn left right pc s
   pub parent : 0 < parent_at pc s
 
-pub record Passed (left right pc : List ℕ) (s next : ℕ) : Type 0 where
-  pub is : (root : ℕ) → next ≡ pass_in (links left right pc root) s
-  pub top : next ≤ length left
+pub record Passed (left right pc : List ℕ) (s : ℕ) (next : Option Slot) : Type 0 where
+  pub is : (root : ℕ) → SlotOrNone next (pass_in (links left right pc root) s)
+  pub top : (root : ℕ) → pass_in (links left right pc root) s ≤ length left

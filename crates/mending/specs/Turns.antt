@@ -5,6 +5,8 @@ use Rattle.model.specs.Lent.{at}
 use Rattle.theory.specs.Slots.{parent_at}
 use Rattle.theory.specs.Programs.{red_turn}
 use Rattle.theory.specs.Places.{Bounded, Spot, Mirrored}
+use Rattle.links.specs.declared.types.Links.{Links}
+use Rattle.links.specs.Bundles.{LinksLeft}
 
 -- far_turn: the sibling is the far child of the parent, and has a far child itself
 pub record FarTurnPre (near far pc : List ℕ) (root sibling parent : ℕ) : Type 0 where
@@ -63,3 +65,8 @@ pub record RedTurned (near far pc : List ℕ) (root sibling parent : ℕ) (near'
   pub made : Mirrored (λ d k. red_turn d k sibling parent) near far pc root near' far' pc' root'
   pub is : new ≡ at far' (at near' sibling)
   pub lower : LowerEndPre near' far' pc' root' new (parent_at pc' new)
+
+-- the same of a bundle, from the entry to the exit
+abbrev pub RedTurnedIn : Links → (sibling parent : ℕ) → LinksLeft → (new : ℕ) → Type 0
+RedTurnedIn k sibling parent e new =
+    RedTurned k.0.now k.1.now k.2.now k.3.now sibling parent e.0.now e.1.0.now e.1.1.0.now e.1.1.1.0.now new

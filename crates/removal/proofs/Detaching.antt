@@ -22,7 +22,7 @@ module _ {left right pc pc₁ left₂ right₂ : List ℕ} {root slot child pare
     all : Bounded left right pc root
     all = pre.bounded
 
-    pub detach_release : SlotIn left₂ right₂ pc₁ slot
+    detach_release : SlotIn left₂ right₂ pc₁ slot
     detach_release = record {
       left = replaced.near_below;
       right = replaced.far_below;

@@ -1,12 +1,13 @@
 -- finish_remove and remove_one: each call's demands, from what the calls before it left, and the promises.
 use Prim.Native.Nat.{ℕ, ◌≤◌}
+use mathlib.Core.Bool.{Bool, true, false}
 use mathlib.Core.List.{List}
 use mathlib.Core.Path.{◌≡◌, refl, ap, ◌∙◌}
+use lib.Dec.{eqb}
 use lib.ListN.{length}
 use native.Mathlib.Omega.{arith}
 use borrow.Author.Tests.{eq-eqb, ne_eqb}
-use Rattle.model.specs.Tree.{Side, lft, rgt, on, Color, red, black, Tree, leaf, node, top_of, Frame, plug}
-use Rattle.model.specs.Lent.{color_code}
+use Rattle.model.specs.Tree.{Side, lft, rgt, on, Color, Tree, leaf, node, top_of, Frame, plug}
 use Rattle.theory.specs.Links.{Links, links}
 use Rattle.theory.specs.Programs.{post_remove, sibling_in, detach, finish_remove, remove_one}
 use Rattle.theory.specs.Places.{Drawn, Spot, Made}
@@ -14,12 +15,16 @@ use Rattle.theory.proofs.Sided.{sided_color, sided_set_color}
 use Rattle.theory.proofs.Replacing.{detach_drawn, detach_sound}
 use Rattle.theory.proofs.Removing.{sibling_drawn, mendable}
 use Rattle.theory.proofs.Places.{bounded, spot_low, spot_high, spot_bounded, spot_color, spot_near, spot_over}
+use denote.Enum.Bare.{sameb}
 use Rattle.links.specs.Reads.{SlotOf, SlotIn, GotColor}
+use Rattle.links.specs.Colors.{shade}
+use Rattle.links.specs.contracts.types.Color.{the_type}
+use Rattle.links.specs.declared.types.Color as shades
+use Rattle.links.specs.declared.types.Color.TheVariants.{Red}
+use Rattle.links.proofs.Colors.{same_red}
 use Rattle.links.specs.Writes.{SetColorPre, SetColor}
 use Rattle.links.proofs.Spots.{spot_in, in_color, in_set_color, bounded_painted}
 use Rattle.mending.specs.Passes.{Sibling}
-use Rattle.mending.specs.Climbs.{Lacking}
-use Rattle.mending.proofs.Refilling.{onward}
 use Rattle.removal.specs.Removals.{DetachPre, FinishPre, OnePre}
 
 -- ---- finish_remove, at each of its four ends
@@ -32,29 +37,30 @@ top_in {left} {right} {pc} {root} {size} (node c l x r) way child held is some =
     let spot : Spot lft left right pc root size lft c l x r way = record { held = held } in
     rw is (spot_in spot)
 
-lost_black : (color : ℕ) (lost : Color) → color ≡ color_code lost → (color ≡ 0 → ⊥) → lost ≡ black
-lost_black color red is some = absurd (some is)
-lost_black color black is some = refl
+module _ {left right pc : List ℕ} {root child sibling : ℕ} (color : shades.Color)
+    (pre : FinishPre left right pc root (shade color) child sibling) {test : Bool}
+    (same : test ≡ sameb the_type color Red) where
+  tested : test ≡ eqb (shade color) 0
+  tested = same ∙ same_red color
 
-module _ {left right pc : List ℕ} {root color child sibling : ℕ}
-    (pre : FinishPre left right pc root color child sibling) where
-  pub finish_red : color ≡ 0
-      → Made (finish_remove (length left) (links left right pc root) color child sibling) (length left)
+  pub finish_red : test ≡ true
+      → Made (finish_remove (length left) (links left right pc root) (shade color) child sibling) (length left)
       left right pc root
   unfolding finish_remove
-  finish_red e = record { is = rw (eq-eqb color 0 e); bounded = bounded pre.held; same = refl }
+  finish_red e = record { is = rw (← tested, e); bounded = bounded pre.held; same = refl }
 
-  module _ (dark : color ≡ 0 → ⊥) where
-    pub finish_color : (child ≡ 0 → ⊥) → SetColorPre pc child 1
-    finish_color some = in_set_color (top_in pre.tree pre.way child pre.held pre.child some) (omega arith)
+  module _ (dark : test ≡ false) where
+    pub finish_color : (child ≡ 0 → ⊥) → SetColorPre pc child
+    finish_color some = in_set_color (top_in pre.tree pre.way child pre.held pre.child some)
 
     pub finish_child : {pc' : List ℕ} → (child ≡ 0 → ⊥) → SetColor pc child 1 pc'
-        → Made (finish_remove (length left) (links left right pc root) color child sibling) (length left)
+        → Made (finish_remove (length left) (links left right pc root) (shade color) child sibling) (length left)
         left right pc' root
     unfolding finish_remove
     finish_child some painted = record {
       is = rw (
-        ne_eqb color 0 dark,
+        ← tested,
+        dark,
         ne_eqb child 0 some,
         sided_set_color lft left right pc root child 1,
         ← painted.is,
@@ -65,28 +71,23 @@ module _ {left right pc : List ℕ} {root color child sibling : ℕ}
 
     module _ (none : child ≡ 0) where
       pub finish_root : sibling ≡ 0
-          → Made (finish_remove (length left) (links left right pc root) color child sibling) (length left)
+          → Made (finish_remove (length left) (links left right pc root) (shade color) child sibling) (length left)
           left right pc root
       unfolding finish_remove
       finish_root e = record {
-        is = rw (ne_eqb color 0 dark, eq-eqb child 0 none, eq-eqb sibling 0 e);
+        is = rw (← tested, dark, eq-eqb child 0 none, eq-eqb sibling 0 e);
         bounded = bounded pre.held;
         same = refl;
       }
 
       module _ (beside : sibling ≡ 0 → ⊥) where
-        pub finish_lack : Lacking left right pc root sibling
-        finish_lack =
-            let solid = pre.solid (lost_black color pre.lost pre.color dark) in
-            (onward pre.tree pre.way sibling pre.held solid pre.sibling beside).lacking
-
         pub finish_climb : {left' right' pc' : List ℕ} {root' : ℕ}
             → Made (post_remove (length left) (links left right pc root) sibling) (length left) left' right' pc' root'
-            → Made (finish_remove (length left) (links left right pc root) color child sibling) (length left)
+            → Made (finish_remove (length left) (links left right pc root) (shade color) child sibling) (length left)
             left' right' pc' root'
         unfolding finish_remove
         finish_climb made = record {
-          is = rw (ne_eqb color 0 dark, eq-eqb child 0 none, ne_eqb sibling 0 beside) made.is;
+          is = rw (← tested, dark, eq-eqb child 0 none, ne_eqb sibling 0 beside) made.is;
           bounded = made.bounded;
           same = made.same;
         }

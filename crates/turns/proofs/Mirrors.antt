@@ -10,7 +10,7 @@ use Rattle.theory.specs.Sided.{sided}
 use Rattle.theory.specs.Places.{Made, Mirrored}
 use Rattle.theory.proofs.Sided.{sided_opp}
 use Rattle.theory.proofs.Places.{swap}
-use Rattle.turns.specs.Turns.{RotatePre, rotate_at}
+use Rattle.turns.specs.Turns.{RotateToPre, rotate_at}
 
 -- near is left, or near is right
 module _ {op : Side → Links → Links} {near far pc near' far' pc' : List ℕ} {root root' : ℕ}
@@ -22,17 +22,18 @@ module _ {op : Side → Links → Links} {near far pc near' far' pc' : List ℕ}
   to_right e =
       record { is = m.is rgt; bounded = swap m.bounded; same = m.bounded.same_far ∙ m.same ∙ sym e }
 
--- rotate_left and rotate_right
+-- rotate_to
 module _ (x : ℕ) {left right pc left' right' pc' : List ℕ} {root root' : ℕ} where
-  pub left_rotated : Mirrored (rotate_at x) left right pc root left' right' pc' root'
-      → Made (rotate_in lft (links left right pc root) x) (length left) left' right' pc' root'
+  pub left_rotated : {side : Side} → side ≡ lft → Mirrored (rotate_at x) left right pc root left' right' pc' root'
+      → Made (rotate_in side (links left right pc root) x) (length left) left' right' pc' root'
   unfolding rotate_at
-  left_rotated m = to_left m
+  left_rotated e m = rw e (to_left m)
 
-  pub right_rotated : RotatePre right left pc root x → Mirrored (rotate_at x) right left pc root right' left' pc' root'
-      → Made (rotate_in rgt (links left right pc root) x) (length left) left' right' pc' root'
+  pub right_rotated : {side : Side} → side ≡ rgt → RotateToPre side left right pc root x
+      → Mirrored (rotate_at x) right left pc root right' left' pc' root'
+      → Made (rotate_in side (links left right pc root) x) (length left) left' right' pc' root'
   unfolding rotate_at
-  right_rotated k m = to_right m k.bounded.same_far
+  right_rotated e k m = rw e (to_right m (rw e at k).bounded.same_far)
 
 -- a rotation with near and far swapped is the one to the other side
 pub rotated_over : (x : ℕ) {near far pc near' far' pc' : List ℕ} {root root' : ℕ}

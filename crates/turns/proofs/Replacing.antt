@@ -11,38 +11,18 @@ use Rattle.theory.specs.Places.{Bounded, Made}
 use Rattle.theory.proofs.Sided.{sided_near, sided_far, sided_parent, sided_color, sided_adopt}
 use Rattle.links.specs.Reads.{SlotIn, Got, GotParent, GotColor}
 use Rattle.links.specs.Writes.{SetLinksPre, SetLinks, Released}
-use Rattle.turns.specs.Turns.{AdoptPre, Adopted, ReplaceChildPre, ReplacedChild, ReplaceWithPre}
+use Rattle.turns.specs.Turns.{Adopted, ReplacedChild, ReplaceWithPre}
 
 module _ {left right pc : List ℕ} {root old new p : ℕ} (k : ReplaceWithPre left right pc root old new)
     (up : GotParent pc old p) where
   all : Bounded left right pc root
   all = k.bounded
 
-  pub with_replace : ReplaceChildPre left right root p new
-  with_replace =
-      record {
-        parent_top = omega (arith, up.top, all.same_pc);
-        new_top = k.new_high;
-        near_below = all.near_below;
-        far_below = all.far_below;
-        top = all.top;
-        same_far = all.same_far;
-      }
-
   module _ {c a b : ℕ} (shade : GotColor pc old c) (first : Got left old a) (second : Got right old b)
       {left₁ right₁ pc₁ : List ℕ} {root₁ : ℕ}
       (replaced : ReplacedChild left right root p old new left₁ right₁ root₁) (adopted : Adopted pc a new pc₁) where
-    pub with_adopt : AdoptPre pc₁ b new
-    with_adopt =
-        record {
-          child_top = omega (arith, second.top, all.same_pc, all.same_far, adopted.same);
-          parent_top = omega (arith, k.new_high, all.same_pc, adopted.same);
-          parents = adopted.parents;
-          small = omega (arith, all.small, all.same_pc, adopted.same);
-        }
-
     module _ {pc₂ : List ℕ} (adopted₂ : Adopted pc₁ b new pc₂) where
-      pub with_links : SetLinksPre left₁ right₁ pc₂ new a b p c
+      with_links : SetLinksPre left₁ right₁ pc₂ new a b p
       with_links =
           record {
             slot = record {
@@ -58,11 +38,10 @@ module _ {left right pc : List ℕ} {root old new p : ℕ} (k : ReplaceWithPre l
             first = omega (arith, first.top, replaced.same_near);
             second = omega (arith, second.top, replaced.same_near, all.same_far);
             parent = omega (arith, up.top, all.same_pc, replaced.same_near);
-            bit = shade.bit;
           }
 
       module _ {left₃ right₃ pc₃ : List ℕ} (s : SetLinks left₁ right₁ pc₂ new a b p c left₃ right₃ pc₃) where
-        pub with_release : SlotIn left₃ right₃ pc₃ old
+        with_release : SlotIn left₃ right₃ pc₃ old
         with_release =
             let before = with_links.slot in
             record {

@@ -1,7 +1,9 @@
 -- adopt, replace_child and rotate: each call's demands, from what the calls before it left, and the promises.
 use Prim.Native.Nat.{ℕ, ◌≤◌}
+use mathlib.Core.Bool.{Bool, true, false}
 use mathlib.Core.List.{List}
-use mathlib.Core.Path.{◌≡◌, refl, sym, ◌∙◌}
+use mathlib.Core.Path.{◌≡◌, refl, sym}
+use lib.Dec.{eqb}
 use lib.ListN.{length}
 use native.Mathlib.Omega.{arith}
 use borrow.Author.Tests.{eq-eqb, ne_eqb}
@@ -14,8 +16,8 @@ use Rattle.theory.specs.Places.{Mirrored}
 use Rattle.theory.proofs.Sided.{sided_near, sided_far, sided_parent, sided_set_near, sided_set_far, sided_set_parent}
 use Rattle.theory.proofs.Sided.{sided_set_root, sided_adopt}
 use Rattle.links.specs.Reads.{Got, GotParent}
-use Rattle.links.specs.Writes.{SetPre, Set, SetParentPre, SetParent}
-use Rattle.turns.specs.Turns.{Adopted, ReplaceChildPre, ReplacedChild, RotatePre, rotate_at}
+use Rattle.links.specs.Writes.{Set, SetParent}
+use Rattle.turns.specs.Turns.{Adopted, ReplacedChild, RotatePre, rotate_at}
 
 -- ---- adopt, by either branch
 
@@ -44,8 +46,9 @@ module _ (near far : List ℕ) (root parent old new : ℕ) (near_below : Below n
         same_far = refl;
       }
 
-  module _ (child : ℕ) (n : parent ≡ 0 → ⊥) (top : root ≤ length near) (g : child ≡ at near parent) where
-    pub replaced_near : (near' : List ℕ) → child ≡ old → Set near parent new near'
+  module _ (child : ℕ) (n : parent ≡ 0 → ⊥) (top : root ≤ length near) (g : child ≡ at near parent) (test : Bool)
+      (same : test ≡ eqb child old) where
+    pub replaced_near : (near' : List ℕ) → test ≡ true → Set near parent new near'
         → ReplacedChild near far root parent old new near' far root
     unfolding replace_child
     replaced_near near' e s =
@@ -53,7 +56,9 @@ module _ (near far : List ℕ) (root parent old new : ℕ) (near_below : Below n
           is = λ d pc. rw (
             ne_eqb parent 0 n,
             sided_near d near far pc root parent,
-            eq-eqb (at near parent) old (sym g ∙ e),
+            ← g,
+            ← same,
+            e,
             s.is,
           ) (sym (sided_set_near d near far pc root parent new));
           near_below = s.below;
@@ -63,7 +68,7 @@ module _ (near far : List ℕ) (root parent old new : ℕ) (near_below : Below n
           same_far = refl;
         }
 
-    pub replaced_far : (far' : List ℕ) → (child ≡ old → ⊥) → Set far parent new far'
+    pub replaced_far : (far' : List ℕ) → test ≡ false → Set far parent new far'
         → ReplacedChild near far root parent old new near far' root
     unfolding replace_child
     replaced_far far' e s =
@@ -71,7 +76,9 @@ module _ (near far : List ℕ) (root parent old new : ℕ) (near_below : Below n
           is = λ d pc. rw (
             ne_eqb parent 0 n,
             sided_near d near far pc root parent,
-            ne_eqb (at near parent) old (λ i. e (g ∙ i)),
+            ← g,
+            ← same,
+            e,
             s.is,
           ) (sym (sided_set_far d near far pc root parent new));
           near_below = near_below;
@@ -83,30 +90,6 @@ module _ (near far : List ℕ) (root parent old new : ℕ) (near_below : Below n
 
 -- ---- rotate: the slot x, its far child y, the near child m of y, and the parent p of x
 
--- what the calls ask for that search does not find
-module _ {near far pc : List ℕ} {root x y : ℕ} (k : RotatePre near far pc root x) (up : Got far x y) where
-  pub rotate_replace : {far₁ pc₁ : List ℕ} {m p : ℕ} → Set far x m far₁ → Adopted pc m x pc₁ → GotParent pc₁ x p
-      → ReplaceChildPre near far₁ root p y
-  rotate_replace s a g =
-      record {
-        parent_top = omega arith;
-        new_top = omega arith;
-        near_below = k.bounded.near_below;
-        far_below = s.below;
-        top = omega arith;
-        same_far = omega arith;
-      }
-
-  pub rotate_set : {far₁ near₂ far₂ : List ℕ} {p root₂ : ℕ} → ReplacedChild near far₁ root p x y near₂ far₂ root₂
-      → SetPre near₂ y x
-  rotate_set h = record { pos = omega arith; top = omega arith; below = h.near_below; value = omega arith }
-
-  pub rotate_set_parent : {pc₁ pc₂ : List ℕ} {m p : ℕ} → Adopted pc m x pc₁ → SetParent pc₁ y p pc₂
-      → SetParentPre pc₂ x y
-  rotate_set_parent a s =
-      record { pos = omega arith; top = omega arith; parents = s.parents; value = omega arith; small = omega arith }
-
--- what it promises
 module _ {near far pc far₁ pc₁ pc₂ near₂ far₂ near₃ pc₃ : List ℕ} {root x y m p root₂ : ℕ}
     (k : RotatePre near far pc root x) (up : Got far x y) (middle : Got near y m) (down : Set far x m far₁)
     (adopted : Adopted pc m x pc₁) (over : GotParent pc₁ x p) (raised : SetParent pc₁ y p pc₂)

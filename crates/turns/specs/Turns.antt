@@ -1,7 +1,7 @@
 -- What adopt, replace_child, the rotations and replace_with require, and what the first two leave.
 use Rattle.std.specs.Prelude.{ℕ, ◌≤◌, ◌<◌, List, ◌≡◌, length}
 use Rattle.model.specs.Limits.{capacity_limit}
-use Rattle.model.specs.Tree.{Side}
+use Rattle.model.specs.Tree.{Side, lft, rgt}
 use Rattle.model.specs.Lent.{at}
 use Rattle.theory.specs.Slots.{adopt_at, Below, Parents}
 use Rattle.theory.specs.Links.{Links}
@@ -45,6 +45,11 @@ pub record RotatePre (near far pc : List ℕ) (root x : ℕ) : Type 0 where
   pub low : 0 < x
   pub high : x ≤ length near
   pub child : 0 < at far x
+
+-- to the left with near as left, to the right with near as right
+abbrev pub RotateToPre : Side → (near far pc : List ℕ) (root x : ℕ) → Type 0
+RotateToPre lft near far pc root x = RotatePre near far pc root x
+RotateToPre rgt near far pc root x = RotatePre far near pc root x
 
 unfoldable pub rotate_at : (x : ℕ) → Side → Links → Links
 rotate_at x d k = rotate_in d k x

@@ -2,15 +2,14 @@
 // (left, right), to the right with the two swapped.
 #![tactic(auto)]
 
-ghost use Rattle.std.specs.Prelude.{length};
-ghost use Rattle.model.specs.Tree.{lft, rgt};
-ghost use Rattle.theory.specs.Links.{links};
+ghost use Rattle.model.specs.Tree.{lft};
 ghost use Rattle.theory.specs.Programs.{rotate_in, replace_in};
-ghost use Rattle.theory.specs.Places.{Made, Mirrored};
+ghost use Rattle.links.specs.Bundles.{Over, Made, Mirrored, links_in};
+ghost use Rattle.links.specs.Sides.{side_of};
 ghost use Rattle.turns.specs.Turns.{AdoptPre, Adopted, ReplaceChildPre, ReplacedChild, RotatePre, rotate_at};
-ghost use Rattle.turns.specs.Turns.{ReplaceWithPre};
+ghost use Rattle.turns.specs.Turns.{RotateToPre, ReplaceWithPre};
 
-use links::types::Slot;
+use links::types::{Links, Side, Slot};
 
 // A child, if there is one, gets a new parent.
 pub fn adopt(pc: &mut [u32], child: Slot, parent: Slot)
@@ -23,6 +22,7 @@ pub fn adopt(pc: &mut [u32], child: Slot, parent: Slot)
 }
 
 // The child number of the parent that is `old`, or the root where there is no parent, becomes `new`.
+// Not a bundle: pc is no part of this, and a bundle would only add the promise that it stays.
 pub fn replace_child(
     near: &mut [u32],
     far: &mut [u32],
@@ -40,7 +40,7 @@ pub fn replace_child(
         *root = new.0;
     } else {
         let child = links::get(near, parent);
-        if child.0 == old.0 {
+        if child == old {
             links::set(near, parent, new);
         } else {
             links::set(far, parent, new);
@@ -49,12 +49,11 @@ pub fn replace_child(
 }
 
 // The slot goes down to the near side, under its far child.
-pub fn rotate(near: &mut [u32], far: &mut [u32], pc: &mut [u32], root: &mut u32, slot: Slot)
-    requires { RotatePre near.old far.old pc.old root.old slot.0 }
-    ensures { Mirrored (rotate_at slot.0)
-        near.old far.old pc.old root.old
-        near.new far.new pc.new root.new }
+pub fn rotate(tree: Links, slot: Slot)
+    requires { Over RotatePre tree slot.0 }
+    ensures { Mirrored (rotate_at slot.0) tree.entry tree.exit }
 {
+    let Links(near, far, pc, root) = tree;
     let upper = links::get(far, slot);
     let middle = links::get(near, upper);
     links::set(far, slot, middle);
@@ -66,51 +65,31 @@ pub fn rotate(near: &mut [u32], far: &mut [u32], pc: &mut [u32], root: &mut u32,
     links::set_parent(pc, slot, upper);
 }
 
-// The right child takes the slot's place, and the slot goes down to the left.
-pub fn rotate_left(left: &mut [u32], right: &mut [u32], pc: &mut [u32], root: &mut u32, slot: Slot)
-    requires { RotatePre left.old right.old pc.old root.old slot.0 }
-    ensures { Made
-        (rotate_in lft (links left.old right.old pc.old root.old) slot.0)
-        (length left.old)
-        left.new right.new pc.new root.new }
+// The child on the other side takes the slot's place, and the slot goes down to this side.
+pub fn rotate_to(tree: Links, side: Side, slot: Slot)
+    requires { Over (RotateToPre (side_of side)) tree slot.0 }
+    ensures { Made (rotate_in (side_of side) (links_in tree.entry) slot.0) tree.entry tree.exit }
 {
-    rotate(left, right, pc, root, slot);
-}
-
-// The left child takes the slot's place, and the slot goes down to the right.
-pub fn rotate_right(left: &mut [u32], right: &mut [u32], pc: &mut [u32], root: &mut u32, slot: Slot)
-    requires { RotatePre right.old left.old pc.old root.old slot.0 }
-    ensures { Made
-        (rotate_in rgt (links left.old right.old pc.old root.old) slot.0)
-        (length left.old)
-        left.new right.new pc.new root.new }
-{
-    rotate(right, left, pc, root, slot);
+    let Links(near, far, pc, root) = tree;
+    match side {
+        Side::Left => rotate(Links(near, far, pc, root), slot),
+        Side::Right => rotate(Links(far, near, pc, root), slot),
+    }
 }
 
 // An unlinked slot takes the place, the children and the colour of another, which is released.
-pub fn replace_with(
-    left: &mut [u32],
-    right: &mut [u32],
-    pc: &mut [u32],
-    root: &mut u32,
-    old: Slot,
-    new: Slot,
-)
-    requires { ReplaceWithPre left.old right.old pc.old root.old old.0 new.0 }
-    ensures { Made
-        (replace_in (links left.old right.old pc.old root.old)
-        old.0 new.0)
-        (length left.old)
-        left.new right.new pc.new root.new }
+pub fn replace_with(tree: Links, old: Slot, new: Slot)
+    requires { Over ReplaceWithPre tree old.0 new.0 }
+    ensures { Made (replace_in (links_in tree.entry) old.0 new.0) tree.entry tree.exit }
 {
+    let Links(near, far, pc, root) = tree;
     let parent = links::parent(pc, old);
     let color = links::color(pc, old);
-    let first = links::get(left, old);
-    let second = links::get(right, old);
-    replace_child(left, right, root, parent, old, new);
+    let first = links::get(near, old);
+    let second = links::get(far, old);
+    replace_child(near, far, root, parent, old, new);
     adopt(pc, first, new);
     adopt(pc, second, new);
-    links::set_links(left, right, pc, new, first, second, parent, color);
-    links::release(left, right, pc, old);
+    links::set_links(near, far, pc, new, first, second, parent, color);
+    links::release(near, far, pc, old);
 }

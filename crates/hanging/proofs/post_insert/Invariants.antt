@@ -4,8 +4,8 @@ use Rattle.hanging.proofs.post_insert.Given as goal
 
 abbrev pub invariant-loop-uncle : goal.invariant-loop-uncle
 invariant-loop-uncle l =
-    Ongoing l.left l.right l.initial.pc l.root l.initial.here.0 l.pc l.here.0
+    Ongoing l.near l.far l.initial.pc l.root l.initial.here.0 l.pc l.here.0
 
 abbrev pub decreases-loop-uncle : goal.decreases-loop-uncle
 decreases-loop-uncle l =
-    steps_left l.left l.pc l.here.0
+    steps_left l.near l.pc l.here.0

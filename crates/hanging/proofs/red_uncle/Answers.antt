@@ -17,12 +17,12 @@ pub get-second-requires : goal.get-second-requires
 get-second-requires c =
     uncle_get_2 c.requires c.parent-parent.ensures c.is_red.ensures c.if-not-is_red.false c.parent-grand.ensures
 
-pub returns-then-first-parent : goal.returns-then-first-parent
-returns-then-first-parent c =
+pub returns-then-eq : goal.returns-then-eq
+returns-then-eq c =
     uncle_right c.requires c.parent-parent.ensures c.is_red.ensures c.if-not-is_red.false c.parent-grand.ensures
-    c.get-first.ensures c.if-first-parent.true c.get-second.ensures c.red_or_none.ensures
+    c.get-first.ensures c.eq.ensures c.if-eq.true c.get-second.ensures c.red_or_none.ensures
 
-pub returns-else-first-parent : goal.returns-else-first-parent
-returns-else-first-parent c =
+pub returns-else-eq : goal.returns-else-eq
+returns-else-eq c =
     uncle_left c.requires c.parent-parent.ensures c.is_red.ensures c.if-not-is_red.false c.parent-grand.ensures
-    c.get-first.ensures c.if-first-parent.false c.red_or_none-else-first-parent.ensures
+    c.get-first.ensures c.eq.ensures c.if-eq.false c.red_or_none-else-eq.ensures

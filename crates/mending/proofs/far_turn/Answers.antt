@@ -1,10 +1,5 @@
-use Rattle.mending.proofs.Turning.{far_rotate, far_turned}
+use Rattle.mending.proofs.Turning.{far_turned}
 use Rattle.mending.proofs.far_turn.Goals as goal
-
-pub rotate-requires : goal.rotate-requires
-rotate-requires c =
-    far_rotate c.requires c.color-color.ensures c.set_color.ensures c.set_color-2.ensures c.get-outer.ensures
-    c.set_color-3.ensures
 
 pub returns : goal.returns
 returns c =

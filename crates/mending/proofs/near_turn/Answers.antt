@@ -1,7 +1,5 @@
 use Rattle.mending.proofs.Turning.{near_color, near_color_2, near_rotate, near_parent, near_parent_2, near_far}
 use Rattle.mending.proofs.Turning.{near_turned}
-use Rattle.theory.proofs.Places.{spot_bounded}
-use mathlib.Core.Path.{sym, ◌∙◌}
 use Rattle.mending.proofs.near_turn.Goals as goal
 
 pub set_color-requires : goal.set_color-requires
@@ -28,12 +26,6 @@ pub far_turn-requires : goal.far_turn-requires
 far_turn-requires c =
     near_far c.requires c.set_color.ensures c.set_color-2.ensures c.rotate.ensures c.parent-upper.ensures
     c.parent-parent.ensures
-
-pub shape_of-pc : goal.shape_of-pc
-shape_of-pc c =
-    let made = near_turned c.requires c.set_color.ensures c.set_color-2.ensures c.rotate.ensures c.parent-upper.ensures
-    c.parent-parent.ensures c.far_turn.ensures in
-    made.bounded.same_pc ∙ made.same ∙ sym (spot_bounded c.requires.spot).same_pc
 
 pub returns : goal.returns
 returns c =

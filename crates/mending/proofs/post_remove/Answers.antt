@@ -6,8 +6,8 @@ pub loop-next-init : goal.loop-next-init
 loop-next-init c =
     refill_start c.requires
 
-pub pass-next-requires : goal.pass-next-requires
-pass-next-requires c =
+pub pass-requires : goal.pass-requires
+pass-requires c =
     refill_asked c.loop-next.invariant
 
 pub set_color-requires : goal.set_color-requires
@@ -16,16 +16,16 @@ set_color-requires c =
 
 pub loop-next-smaller : goal.loop-next-smaller
 loop-next-smaller c =
-    refill_less c.loop-next.invariant c.pass-next.ensures c.if-next-eq0.false c.set_color.ensures
+    refill_less c.loop-next.invariant c.in-Some.ensures c.set_color.ensures
 
 pub loop-next-preserved : goal.loop-next-preserved
 loop-next-preserved c =
-    refill_on c.loop-next.invariant c.pass-next.ensures c.if-next-eq0.false c.set_color.ensures
+    refill_on c.loop-next.invariant c.in-Some.ensures c.set_color.ensures
 
 pub sink_end-requires : goal.sink_end-requires
 sink_end-requires c =
-    refill_last c.loop-next.invariant c.pass-next.ensures c.if-next-eq0.true
+    refill_last c.loop-next.invariant c.in_default.ensures
 
 pub returns : goal.returns
 returns c =
-    refill_done c.loop-next.invariant c.pass-next.ensures c.if-next-eq0.true c.sink_end.ensures
+    refill_done c.loop-next.invariant c.in_default.ensures c.sink_end.ensures

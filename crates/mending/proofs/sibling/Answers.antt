@@ -5,11 +5,11 @@ pub returns-then-parent-eq0 : goal.returns-then-parent-eq0
 returns-then-parent-eq0 c =
     sibling_none c.requires c.parent-parent.ensures c.if-parent-eq0.true
 
-pub returns-then-first-slot : goal.returns-then-first-slot
-returns-then-first-slot c =
-    sibling_right c.requires c.parent-parent.ensures c.if-parent-eq0.false c.get-first.ensures c.if-first-slot.true
+pub returns-then-eq : goal.returns-then-eq
+returns-then-eq c =
+    sibling_right c.requires c.parent-parent.ensures c.if-parent-eq0.false c.get-first.ensures c.eq.ensures c.if-eq.true
     c.get.ensures
 
-pub returns-else-first-slot : goal.returns-else-first-slot
-returns-else-first-slot c =
-    sibling_left c.requires c.parent-parent.ensures c.if-parent-eq0.false c.get-first.ensures c.if-first-slot.false
+pub returns-else-eq : goal.returns-else-eq
+returns-else-eq c =
+    sibling_left c.requires c.parent-parent.ensures c.if-parent-eq0.false c.get-first.ensures c.eq.ensures c.if-eq.false

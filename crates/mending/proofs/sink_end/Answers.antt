@@ -1,5 +1,6 @@
 use Rattle.mending.proofs.Ending.{end_parent, end_get, end_right, end_left, ended_right, ended_left}
 use Rattle.mending.proofs.sink_end.Goals as goal
+use Rattle.mending.proofs.sink_end.Goals.{then-eq, else-eq}
 
 pub parent-parent-requires : goal.parent-parent-requires
 parent-parent-requires c =
@@ -11,17 +12,21 @@ get-first-requires c =
 
 pub sink_at-requires : goal.sink_at-requires
 sink_at-requires c =
-    end_right c.requires.lacking c.parent-parent.ensures c.get-first.ensures c.if-first-slot.true
+    end_right c.requires.lacking c.parent-parent.ensures c.get-first.ensures c.eq.ensures c.if-eq.true
 
-pub sink_at-requires-else-first-slot : goal.sink_at-requires-else-first-slot
-sink_at-requires-else-first-slot c =
-    end_left c.requires.lacking c.parent-parent.ensures c.get-first.ensures c.if-first-slot.false
+pub sink_at-requires-else-eq : goal.sink_at-requires-else-eq
+sink_at-requires-else-eq c =
+    end_left c.requires.lacking c.parent-parent.ensures c.get-first.ensures c.eq.ensures c.if-eq.false
 
-pub returns-then-first-slot : goal.returns-then-first-slot
-returns-then-first-slot c =
-    ended_right c.requires.lacking c.parent-parent.ensures c.get-first.ensures c.if-first-slot.true c.sink_at.ensures
-
-pub returns-else-first-slot : goal.returns-else-first-slot
-returns-else-first-slot c =
-    ended_left c.requires.lacking c.parent-parent.ensures c.get-first.ensures c.if-first-slot.false
-    c.sink_at-else-first-slot.ensures
+pub returns : goal.returns
+returns c =
+    elim c.if-eq.branch [
+      | then-eq w ↦
+          rw (w.near-is, w.far-is, w.pc-is, w.root-is)
+          (ended_right c.requires.lacking c.parent-parent.ensures c.get-first.ensures c.eq.ensures w.if-eq.true
+          w.sink_at.ensures)
+      | else-eq w ↦
+          rw (w.near-is, w.far-is, w.pc-is, w.root-is)
+          (ended_left c.requires.lacking c.parent-parent.ensures c.get-first.ensures c.eq.ensures w.if-eq.false
+          w.sink_at-else-eq.ensures)
+    ]

@@ -6,10 +6,10 @@ pub returns-then-parent-eq0 : goal.returns-then-parent-eq0
 returns-then-parent-eq0 c =
     search (rules, replaced_root)
 
-pub returns-then-child-old : goal.returns-then-child-old
-returns-then-child-old c =
+pub returns-then-eq : goal.returns-then-eq
+returns-then-eq c =
     search (rules, replaced_near)
 
-pub returns-else-child-old : goal.returns-else-child-old
-returns-else-child-old c =
+pub returns-else-eq : goal.returns-else-eq
+returns-else-eq c =
     search (rules, replaced_far)
