@@ -21,46 +21,67 @@ use Rattle.theory.proofs.Sides.{by_side}
 use Rattle.theory.proofs.Places.{spot_low, spot_near, spot_over}
 use Rattle.theory.proofs.Depth.{spot_deep}
 use Rattle.theory.proofs.Height.{height_nod}
-use Rattle.descent.specs.Entries.{side_if}
 use Rattle.descent.specs.Searches.{childless, toward, last_node}
 
+-- from a tree below the way it goes on as the descent from the root does
+pub record By (step : ℕ → Step) (t below : Tree) (w : List Frame) : Type 0 where
+  pub is : descend step below w ≡ descend step t []
+
+pub by_start : {step : ℕ → Step} (t : Tree) → By step t t []
+by_start t = record { is = refl }
+
+-- whatever way it goes
+abbrev pub Anyhow : (t below : Tree) → List Frame → Type 0
+Anyhow t u w = Unit {0}
+
 -- It has come by the way w, over n nodes, the last of them `last`, to the slot here, or where that is 0 to a missing
--- child; from there it goes on as the descent from the root does.
-pub record Downward (step : ℕ → Step) (t : Tree) (here last n : ℕ) (w : List Frame) : Type 0 where
+-- child; S says how it goes on from there.
+pub record Downward (S : Tree → Tree → List Frame → Type 0) (t : Tree) (here last n : ℕ) (w : List Frame)
+    : Type 0 where
   pub place : Tree
   pub whole : plug place w ≡ t
   pub here_is : here ≡ top_of place
   pub last_is : last ≡ above w
   pub count_is : n ≡ length w
-  pub same : descend step place w ≡ descend step t []
+  pub same : S t place w
 
 -- It has come to the node x, seen from the side d.
-pub record Meeting (d : Side) (step : ℕ → Step) (t : Tree) (x n : ℕ) (w : List Frame) : Type 0 where
+pub record Meeting (d : Side) (S : Tree → Tree → List Frame → Type 0) (t : Tree) (x n : ℕ) (w : List Frame)
+    : Type 0 where
   pub color : Color
   pub near : Tree
   pub far : Tree
   pub whole : plug (nod d color near x far) w ≡ t
   pub count_is : n ≡ length w
-  pub same : descend step (nod d color near x far) w ≡ descend step t []
+  pub same : S t (nod d color near x far) w
 
 root_is : (d : Side) {near far pc : List ℕ} {root C : ℕ} {t : Tree} → Drawn d near far pc root C t → root ≡ top_of t
 unfolding drawn draw lay
 root_is lft k = ap (λ (z : Links). z.root) k.is
 root_is rgt k = ap (λ (z : Links). z.root) k.is
 
--- a comparison that sends to the side leads on from the child there
+-- from x it goes on at the child on the side
+abbrev pub Leads : (S : Tree → Tree → List Frame → Type 0) → (x : ℕ) → Side → Type 0
+Leads S x d =
+    (t : Tree) (c : Color) (near far : Tree) (w : List Frame)
+    → S t (nod d c near x far) w → S t near (frame d c x far ∷ w)
+
+-- a comparison that sends to the side leads there
 turn : (step : ℕ → Step) (d : Side) (c : Color) (near : Tree) (x : ℕ) (far : Tree) (w : List Frame) → step x ≡ toward d
     → descend step (nod d c near x far) w ≡ descend step near (frame d c x far ∷ w)
 turn step lft c near x far w e = rw e
 turn step rgt c near x far w e = rw e
 
-module _ {step : ℕ → Step} {t : Tree} where
+pub sends : {step : ℕ → Step} {x : ℕ} (d : Side) → step x ≡ toward d → Leads (By step) x d
+sends {step} {x} d e t c near far w same = record { is = sym (turn step d c near x far w e) ∙ same.is }
+
+module _ {S : Tree → Tree → List Frame → Type 0} {t : Tree} where
   -- at a slot
-  pub meeting : {here last n : ℕ} {w : List Frame} (d : Side) → Downward step t here last n w → here ≢ 0
-      → Meeting d step t here n w
+  pub meeting : {here last n : ℕ} {w : List Frame} (d : Side) → Downward S t here last n w → here ≢ 0
+      → Meeting d S t here n w
   meeting {here} {last} {n} {w} d s some =
       by_side d
-      (λ u. plug u w ≡ t → here ≡ top_of u → descend step u w ≡ descend step t [] → Meeting d step t here n w)
+      (λ u. plug u w ≡ t → here ≡ top_of u → S t u w → Meeting d S t here n w)
       (λ whole is same. absurd (some is))
       (λ c near x far whole is same. rw is (record {
         color = c;
@@ -73,30 +94,30 @@ module _ {step : ℕ → Step} {t : Tree} where
       s.place s.whole s.here_is s.same
 
   -- one step down to the side
-  pub moved : {x n next : ℕ} {w : List Frame} (d : Side) (s : Meeting d step t x n w) → step x ≡ toward d
-      → next ≡ top_of s.near → Downward step t next x (n + 1) (frame d s.color x s.far ∷ w)
+  pub moved : {x n next : ℕ} {w : List Frame} (d : Side) (s : Meeting d S t x n w) → Leads S x d
+      → next ≡ top_of s.near → Downward S t next x (n + 1) (frame d s.color x s.far ∷ w)
   moved {x} {w = w} d s e is = record {
     place = s.near;
     whole = s.whole;
     here_is = is;
     last_is = refl;
     count_is = omega (arith, s.count_is);
-    same = sym (turn step d s.color s.near x s.far w e) ∙ s.same;
+    same = e t s.color s.near s.far w s.same;
   }
 
   module _ {d : Side} {near far pc : List ℕ} {root C : ℕ} (k : Drawn d near far pc root C t) where
     -- at the root
-    pub start : Downward step t root 0 0 []
-    start = record {
+    pub start : S t t [] → Downward S t root 0 0 []
+    start same = record {
       place = t;
       whole = refl;
       here_is = root_is d k;
       last_is = refl;
       count_is = refl;
-      same = refl;
+      same = same;
     }
 
-    module _ {x n : ℕ} {w : List Frame} {e : Side} (s : Meeting e step t x n w) where
+    module _ {x n : ℕ} {w : List Frame} {e : Side} (s : Meeting e S t x n w) where
       -- the node's place in the drawing
       pub met_spot : Spot d near far pc root C e s.color s.near x s.far w
       met_spot = record { held = rw s.whole k }
@@ -105,17 +126,18 @@ module _ {step : ℕ → Step} {t : Tree} where
       pub met_deep : n < length near
       met_deep = omega (arith, spot_deep met_spot, s.count_is, height_nod e s.color s.near x s.far)
 
-    -- where a child is missing, it has ended
-    pub ended : {here last n : ℕ} {w : List Frame} → Downward step t here last n w → here ≡ 0
-        → descend step t [] ≡ landing leaf w
-    ended {here} {last} {n} {w} s none = go s.place s.whole (sym none ∙ s.here_is) s.same
-      where
-        go : (u : Tree) → plug u w ≡ t → 0 ≡ top_of u → descend step u w ≡ descend step t []
-            → descend step t [] ≡ landing leaf w
-        go leaf whole is same = sym same
-        go (node c l x r) whole is same =
-            let z : Spot d near far pc root C lft c l x r w = record { held = rw whole k } in
-            absurd (omega (arith, spot_low z))
+-- where a child is missing, it has ended
+pub ended : {d : Side} {near far pc : List ℕ} {root C : ℕ} {step : ℕ → Step} {t : Tree} → Drawn d near far pc root C t
+    → {here last n : ℕ} {w : List Frame} → Downward (By step) t here last n w → here ≡ 0
+    → descend step t [] ≡ landing leaf w
+ended {d} {near} {far} {pc} {root} {C} {step} {t} k {here} {last} {n} {w} s none =
+    go s.place s.whole (sym none ∙ s.here_is) s.same
+  where
+    go : (u : Tree) → plug u w ≡ t → 0 ≡ top_of u → By step t u w → descend step t [] ≡ landing leaf w
+    go leaf whole is same = sym same.is
+    go (node c l x r) whole is same =
+        let z : Spot d near far pc root C lft c l x r w = record { held = rw whole k } in
+        absurd (omega (arith, spot_low z))
 
 -- the last node of a descent that ends at an empty place
 pub last_node_empty : (e : Landing) → e.place ≡ leaf → last_node e ≡ above e.way
@@ -128,16 +150,27 @@ last_node_empty e empty = rw empty (go e.way)
 
 -- ---- over both arrays of children
 
+-- the left side, if the test passes
+abbrev pub side_if : Bool → Side
+side_if b = pick b lft rgt
+
+pub turn_if : {step : ℕ → Step} {x : ℕ} (goes_left : Bool) → step x ≡ left_if goes_left
+    → Leads (By step) x (side_if goes_left)
+turn_if true e = sends lft e
+turn_if false e = sends rgt e
+
 -- it has gone left from here if the test passes, else right
-pub record Stepped (step : ℕ → Step) (t : Tree) (goes_left : Bool) (next here n : ℕ) (w : List Frame) : Type 0 where
+pub record Stepped (S : Tree → Tree → List Frame → Type 0) (t : Tree) (goes_left : Bool) (next here n : ℕ)
+    (w : List Frame) : Type 0 where
   pub color : Color
   pub sibling : Tree
-  pub stands : Downward step t next here n (frame (side_if goes_left) color here sibling ∷ w)
+  pub stands : Downward S t next here n (frame (side_if goes_left) color here sibling ∷ w)
 
-module _ {left right pc : List ℕ} {root C : ℕ} {t : Tree} (k : Drawn lft left right pc root C t) {step : ℕ → Step} where
-  pub stepped : {here last n next : ℕ} {w : List Frame} (goes_left : Bool) → Downward step t here last n w → here ≢ 0
-      → step here ≡ left_if goes_left → next ≡ pick goes_left (at left here) (at right here)
-      → Stepped step t goes_left next here (n + 1) w
+module _ {left right pc : List ℕ} {root C : ℕ} {t : Tree} (k : Drawn lft left right pc root C t)
+    {S : Tree → Tree → List Frame → Type 0} where
+  pub stepped : {here last n next : ℕ} {w : List Frame} (goes_left : Bool) → Downward S t here last n w → here ≢ 0
+      → Leads S here (side_if goes_left) → next ≡ pick goes_left (at left here) (at right here)
+      → Stepped S t goes_left next here (n + 1) w
   stepped true s some goes is =
       let m = meeting lft s some in
       record { color = m.color; sibling = m.far; stands = moved lft m goes (is ∙ spot_near (met_spot k m)) }
@@ -147,7 +180,6 @@ module _ {left right pc : List ℕ} {root C : ℕ} {t : Tree} (k : Drawn lft lef
 
 -- below a leaf it finds nothing
 pub none_picked : (goes_left : Bool) (a b : ℕ) {next : ℕ} → childless a b ≡ true → next ≡ pick goes_left a b → next ≡ 0
-unfolding childless
 none_picked goes_left a b {next} none is = by-test (eqb a 0)
     (λ e. let f : eqb b 0 ≡ true = rw e at none in go goes_left (eqb-true a 0 e) (eqb-true b 0 f) is)
     (λ e. let f : false ≡ true = rw e at none in cc)

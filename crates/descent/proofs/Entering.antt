@@ -17,29 +17,34 @@ use Rattle.theory.proofs.Counts.{slot_low}
 use Rattle.theory.proofs.Descents.{follow_cases, descend_plug}
 use Rattle.theory.proofs.Bounds.{insert_plug}
 use Rattle.theory.proofs.Finds.{find_insert}
+use Rattle.links.specs.declared.types.Slot.{Slot}
+use Rattle.links.specs.declared.types.Side.TheVariants.{Left, Right}
+use Rattle.links.specs.Sides as code
 use Rattle.descent.specs.declared.types.InsertCursor.{InsertCursor}
 use Rattle.descent.specs.declared.types.Met.{Met}
 use Rattle.descent.specs.declared.types.Entry.TheVariants.{Occupied, Vacant}
-use Rattle.descent.specs.Entries.{side_if, place_told}
+use Rattle.descent.specs.Entries.{place_told}
 use Rattle.descent.specs.Searches.{left_of, toward, FoundPlace, FoundKey, FoundEntry}
-use Rattle.descent.proofs.Downward.{last_node_empty}
+use Rattle.descent.proofs.Downward.{last_node_empty, side_if}
 use Rattle.descent.proofs.Finding.{found_top}
 
 -- ---- place
 
-abbrev place_of : (parent : ℕ) → (on-left : Bool) → InsertCursor
-place_of parent on-left = record { parent = record { 0 = parent }; on_left = on-left }
-
-module _ {key : List ℕ} {last k : ℕ} where
+module _ (key : List ℕ) (last : Slot) (k : ℕ) where
   -- in an empty tree
-  pub placed_none : last ≡ 0 → FoundPlace key last k (place_of last false)
+  pub placed_none : last.0 ≡ 0 → FoundPlace key last.0 k (record { parent = last; side = Right })
   unfolding left_of
-  placed_none none = record { parent_is = refl; side_is = rw (eq-eqb last 0 none) }
+  placed_none none = record { parent_is = refl; side_is = rw (eq-eqb last.0 0 none) }
 
-  -- under a node
-  pub placed_under : {held : ℕ} → last ≢ 0 → held ≡ at key last → FoundPlace key last k (place_of last (ltb k held))
-  unfolding left_of
-  placed_under some is = record { parent_is = refl; side_is = rw (ne_eqb last 0 some, is) }
+  -- under a node, on either side
+  module _ (some : last.0 ≢ 0) {held : ℕ} (is : held ≡ at key last.0) where
+    pub placed_left : ltb k held ≡ true → FoundPlace key last.0 k (record { parent = last; side = Left })
+    unfolding left_of
+    placed_left less = record { parent_is = refl; side_is = rw (ne_eqb last.0 0 some, ← is, less) }
+
+    pub placed_right : ltb k held ≡ false → FoundPlace key last.0 k (record { parent = last; side = Right })
+    unfolding left_of
+    placed_right less = record { parent_is = refl; side_is = rw (ne_eqb last.0 0 some, ← is, less) }
 
 -- ---- the side on which a descent ends
 
@@ -77,7 +82,7 @@ module _ {C : ℕ} (key : List ℕ) (k : ℕ) where
   placed_insert t {last} {place} sound is q =
       let w = (insert_landing (at key) k t).way in
       let whole : Sound C (plug leaf w) = rw (insert_plug (at key) k t) sound in
-      let side : side_if place.on_left ≡ side_of w
+      let side : code.side_of place.side ≡ side_of w
       = rw (q.side_is, is) (side_at w whole (sent_way (insert_step (at key) k) t [] tt)) in
       rw (q.parent_is, is, side)
 

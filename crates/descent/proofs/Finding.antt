@@ -16,7 +16,7 @@ use Rattle.theory.proofs.Descents.{probes_way}
 use Rattle.links.specs.Reads.{Got}
 use Rattle.descent.specs.declared.types.Met.{Met}
 use Rattle.descent.specs.Searches.{Searchable, childless, last_node, MetAt, met_of, FoundKey}
-use Rattle.descent.proofs.Downward.{meeting, ended, last_node_empty, none_picked}
+use Rattle.descent.proofs.Downward.{By, meeting, ended, last_node_empty, turn_if, none_picked}
 use Rattle.descent.proofs.Keeping.{Keeping, keep_key, keep_on}
 
 -- ---- its comparison
@@ -50,7 +50,7 @@ find_ending key k t u w e i = rw (found_top key k t, e) i
 
 module _ {left right key : List ℕ} {root k : ℕ} where
   -- it ends where a child is missing
-  pub found_none : {m : Met} → Keeping left right key root (find_step (at key) k) m.slot.0 m.last.0 m.probes
+  pub found_none : {m : Met} → Keeping left right key root (By (find_step (at key) k)) m.slot.0 m.last.0 m.probes
       → m.slot.0 ≡ 0 → FoundKey left right key root k m
   found_none s none = record {
     is = λ v.
@@ -65,7 +65,7 @@ module _ {left right key : List ℕ} {root k : ℕ} where
   }
 
   module _ {here last n : ℕ} (v : Searchable left right key root)
-      (s : Keeping left right key root (find_step (at key) k) here last n) (some : here ≢ 0)
+      (s : Keeping left right key root (By (find_step (at key) k)) here last n) (some : here ≢ 0)
       {held : ℕ} (held-is : held ≡ at key here) where
     -- it halts at an equal key
     pub found_here : held ≡ k → FoundKey left right key root k (met_of here here (n + 1))
@@ -75,7 +75,7 @@ module _ {left right key : List ℕ} {root k : ℕ} where
           let z = s.each u in
           let m = meeting lft z.stands some in
           let x = node m.color m.near here m.far in
-          find_ending (at key) k u.tree x z.way (sym m.same ∙ rw (find_halts key k here held held-is e))
+          find_ending (at key) k u.tree x z.way (sym m.same.is ∙ rw (find_halts key k here held held-is e))
           (record {
             slot_is = refl;
             last_is = refl;
@@ -84,13 +84,16 @@ module _ {left right key : List ℕ} {root k : ℕ} where
       top = (keep_key v s some).top;
     }
 
-    module _ {a b next : ℕ} (got-left : Got left here a) (got-right : Got right here b) (apart : held ≢ k)
-        (next_is : next ≡ pick (ltb k held) a b) where
+    module _ {a b next : ℕ} {less : Bool} (got-left : Got left here a) (got-right : Got right here b) (apart : held ≢ k)
+        (less-is : less ≡ ltb k held) (next_is : next ≡ pick less a b) where
+      goes : find_step (at key) k here ≡ left_if less
+      goes = rw less-is (find_goes key k here held held-is apart)
+
       -- one step down
-      pub find_on : Keeping left right key root (find_step (at key) k) next here (n + 1)
-      find_on = keep_on v s some (ltb k held) (find_goes key k here held held-is apart) got-left got-right next_is
+      pub find_on : Keeping left right key root (By (find_step (at key) k)) next here (n + 1)
+      find_on = keep_on v s some less (turn_if less goes) got-left got-right next_is
 
       -- below a leaf it ends at once
       pub found_leaf : {none : Bool} → none ≡ childless a b → none ≡ true
           → FoundKey left right key root k (met_of next here (n + 1))
-      found_leaf is taken = found_none find_on (none_picked (ltb k held) a b (sym is ∙ taken) next_is)
+      found_leaf is taken = found_none find_on (none_picked less a b (sym is ∙ taken) next_is)

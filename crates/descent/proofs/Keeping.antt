@@ -9,34 +9,37 @@ use lib.ListN.{length}
 use Rattle.model.specs.Branch.{pick}
 use Rattle.model.specs.Limits.{capacity_limit}
 use Rattle.model.specs.Tree.{lft, Tree, Frame, frame}
-use Rattle.model.specs.Descent.{Step, left_if}
 use Rattle.theory.specs.Places.{Spot, Bounded}
 use Rattle.theory.proofs.Places.{bounded, long, spot_low, spot_high}
 use Rattle.links.specs.Reads.{SlotOf, GetPre, Got}
-use Rattle.descent.specs.Entries.{side_if}
 use Rattle.descent.specs.Searches.{Searchable}
-use Rattle.descent.proofs.Downward.{Downward, Meeting, start, meeting, met_spot, met_deep, stepped}
+use Rattle.descent.proofs.Downward.{Downward, Meeting, Leads, start, meeting, met_spot, met_deep, side_if}
+use Rattle.descent.proofs.Downward.{stepped}
 
 -- It has come down, by whatever way.
-pub record Coming (step : ℕ → Step) (t : Tree) (here last n : ℕ) : Type 0 where
+pub record Coming (S : Tree → Tree → List Frame → Type 0) (t : Tree) (here last n : ℕ) : Type 0 where
   pub way : List Frame
-  pub stands : Downward step t here last n way
+  pub stands : Downward S t here last n way
 
 module _ (left right key : List ℕ) (root : ℕ) where
   -- It has, in each such tree; the last node has a key, and the nodes are few.
-  pub record Keeping (step : ℕ → Step) (here last n : ℕ) : Type 0 where
-    pub each : (v : Searchable left right key root) → Coming step v.tree here last n
+  pub record Keeping (S : Tree → Tree → List Frame → Type 0) (here last n : ℕ) : Type 0 where
+    pub each : (v : Searchable left right key root) → Coming S v.tree here last n
     pub top : last ≤ length key
     pub few : n ≤ capacity_limit
 
 -- at the root
-unfoldable pub keep_start : {left right key : List ℕ} {root : ℕ} {step : ℕ → Step}
-    → Keeping left right key root step root 0 0
-keep_start = record { each = λ v. record { way = []; stands = start v.drawing }; top = omega arith; few = omega arith }
+unfoldable pub keep_start : {left right key : List ℕ} {root : ℕ} {S : Tree → Tree → List Frame → Type 0}
+    → ((t : Tree) → S t t []) → Keeping left right key root S root 0 0
+keep_start same = record {
+  each = λ v. record { way = []; stands = start v.drawing (same v.tree) };
+  top = omega arith;
+  few = omega arith;
+}
 
-module _ {left right key : List ℕ} {root : ℕ} {step : ℕ → Step} {here last n : ℕ}
-    (v : Searchable left right key root) (s : Keeping left right key root step here last n) (some : here ≢ 0) where
-  met : Meeting lft step v.tree here n (s.each v).way
+module _ {left right key : List ℕ} {root : ℕ} {S : Tree → Tree → List Frame → Type 0} {here last n : ℕ}
+    (v : Searchable left right key root) (s : Keeping left right key root S here last n) (some : here ≢ 0) where
+  met : Meeting lft S v.tree here n (s.each v).way
   met = meeting lft (s.each v).stands some
 
   spot : Spot lft left right v.pc root v.size lft met.color met.near here met.far (s.each v).way
@@ -67,9 +70,9 @@ module _ {left right key : List ℕ} {root : ℕ} {step : ℕ → Step} {here la
   keep_few = omega (arith, met_deep v.drawing met, bounds.small)
 
   -- one step down, to the left if the test passes
-  module _ {a b next : ℕ} (goes_left : Bool) (goes : step here ≡ left_if goes_left) (got-left : Got left here a)
+  module _ {a b next : ℕ} (goes_left : Bool) (goes : Leads S here (side_if goes_left)) (got-left : Got left here a)
       (got-right : Got right here b) (next_is : next ≡ pick goes_left a b) where
-    unfoldable pub keep_on : Keeping left right key root step next here (n + 1)
+    unfoldable pub keep_on : Keeping left right key root S next here (n + 1)
     keep_on = record {
       each = λ u. let z = stepped u.drawing {next = next} goes_left (s.each u).stands some goes
           (rw (← got-left.is, ← got-right.is) next_is) in

@@ -1,5 +1,4 @@
 -- How the descents go, and what follows for a caller.
-pub mod Comparing
 pub mod Downward
 pub mod Keeping
 pub mod Passing

@@ -12,17 +12,16 @@ use Rattle.model.specs.Descent.{landing, last_turn}
 use Rattle.theory.proofs.Descents.{probes_way}
 use Rattle.links.specs.Reads.{Got}
 use Rattle.descent.specs.declared.types.Path.{Path}
-use Rattle.descent.specs.Entries.{side_if}
-use Rattle.descent.specs.Searches.{Searchable, is_over, childless, over_step, FoundPath}
-use Rattle.descent.proofs.Downward.{ended, last_node_empty, none_picked}
+use Rattle.descent.specs.Searches.{Searchable, childless, over_step, FoundPath}
+use Rattle.descent.proofs.Downward.{By, by_start, ended, last_node_empty, side_if, turn_if, none_picked}
 use Rattle.descent.proofs.Keeping.{Keeping, keep_start, keep_on}
 
-module _ (left right key : List ℕ) (root k : ℕ) (twins : Bool) where
+module _ (left right key : List ℕ) (root : ℕ) (over : ℕ → Bool) where
   -- Beside the way down it keeps, in each tree, the last turns.
-  pub record Passing (here last under over n : ℕ) : Type 0 where
-    pub keeping : Keeping left right key root (over_step (at key) k twins) here last n
+  pub record Passing (here last under above n : ℕ) : Type 0 where
+    pub keeping : Keeping left right key root (By (over_step (at key) over)) here last n
     pub under_is : (v : Searchable left right key root) → under ≡ last_turn rgt (keeping.each v).way
-    pub over_is : (v : Searchable left right key root) → over ≡ last_turn lft (keeping.each v).way
+    pub over_is : (v : Searchable left right key root) → above ≡ last_turn lft (keeping.each v).way
 
 -- the last turns after a step from x, where they were y
 turn_under : (goes_left : Bool) (x y : ℕ)
@@ -35,16 +34,16 @@ turn_over_lem : (goes_left : Bool) (x y : ℕ)
 turn_over_lem true x y = refl
 turn_over_lem false x y = refl
 
-module _ {left right key : List ℕ} {root k : ℕ} {twins : Bool} where
+module _ {left right key : List ℕ} {root : ℕ} {over : ℕ → Bool} where
   -- at the root
-  pub pass_start : Passing left right key root k twins root 0 0 0 0
+  pub pass_start : Passing left right key root over root 0 0 0 0
   unfolding keep_start
-  pass_start = record { keeping = keep_start; under_is = λ v. refl; over_is = λ v. refl }
+  pass_start = record { keeping = keep_start by_start; under_is = λ v. refl; over_is = λ v. refl }
 
   -- it ends where a child is missing
   pub passed : {here : ℕ} {p : Path}
-      → Passing left right key root k twins here p.last.0 p.under.0 p.over.0 p.probes → here ≡ 0
-      → FoundPath left right key root k twins p
+      → Passing left right key root over here p.last.0 p.under.0 p.over.0 p.probes → here ≡ 0
+      → FoundPath left right key root over p
   passed s none = record {
     is = λ v.
         let z = s.keeping.each v in
@@ -58,27 +57,27 @@ module _ {left right key : List ℕ} {root k : ℕ} {twins : Bool} where
     top = s.keeping.top;
   }
 
-  module _ {here last under over n : ℕ} (v : Searchable left right key root)
-      (s : Passing left right key root k twins here last under over n) (some : here ≢ 0)
-      {held a b next under' over' : ℕ} {goes_left : Bool} (held-is : held ≡ at key here)
-      (got-left : Got left here a) (got-right : Got right here b) (goes : goes_left ≡ is_over k held twins)
-      (over_is : over' ≡ pick goes_left here over) (under_is : under' ≡ pick goes_left under here)
+  module _ {here last under above n : ℕ} (v : Searchable left right key root)
+      (s : Passing left right key root over here last under above n) (some : here ≢ 0)
+      {held a b next under' above' : ℕ} {goes_left : Bool} (held-is : held ≡ at key here)
+      (got-left : Got left here a) (got-right : Got right here b) (goes : goes_left ≡ over held)
+      (over_is : above' ≡ pick goes_left here above) (under_is : under' ≡ pick goes_left under here)
       (next_is : next ≡ pick goes_left a b) where
     -- one step down
-    pub pass_on : Passing left right key root k twins next here under' over' (n + 1)
+    pub pass_on : Passing left right key root over next here under' above' (n + 1)
     unfolding over_step keep_on
     pass_on = record {
-      keeping = keep_on v s.keeping some goes_left (rw (goes, held-is)) got-left got-right next_is;
+      keeping = keep_on v s.keeping some goes_left (turn_if goes_left (rw (goes, held-is))) got-left got-right next_is;
       under_is = λ u. under_is ∙ rw (s.under_is u) (turn_under goes_left here _);
       over_is = λ u. over_is ∙ rw (s.over_is u) (turn_over_lem goes_left here _);
     }
 
     -- below a leaf it ends at once
     pub passed_leaf : {none : Bool} → none ≡ childless a b → none ≡ true
-        → FoundPath left right key root k twins (record {
+        → FoundPath left right key root over (record {
           last = record { 0 = here };
           under = record { 0 = under' };
-          over = record { 0 = over' };
+          over = record { 0 = above' };
           probes = n + 1;
         })
     passed_leaf is taken = passed pass_on (none_picked goes_left a b (sym is ∙ taken) next_is)

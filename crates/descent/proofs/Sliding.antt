@@ -12,17 +12,18 @@ use Rattle.theory.proofs.Places.{bounded, spot_low, spot_high, spot_near}
 use Rattle.theory.proofs.Descents.{probes_way}
 use Rattle.links.specs.Reads.{GetPre, Got}
 use Rattle.descent.specs.Searches.{Sloping, toward, met_of, FoundEdge}
-use Rattle.descent.proofs.Downward.{Meeting, start, meeting, moved, met_spot, met_deep, ended, last_node_empty}
+use Rattle.descent.proofs.Downward.{By, by_start, Meeting, sends, start, meeting, moved, met_spot, met_deep, ended}
+use Rattle.descent.proofs.Downward.{last_node_empty}
 use Rattle.descent.proofs.Keeping.{Coming}
 
 -- It has come down, on whatever side of whatever tree the links are; and the nodes are few.
 pub record Sliding (near : List ℕ) (root here last n : ℕ) : Type 0 where
-  pub each : (v : Sloping near root) → Coming (λ _. toward v.side) v.tree here last n
+  pub each : (v : Sloping near root) → Coming (By (λ _. toward v.side)) v.tree here last n
   pub few : n ≤ capacity_limit
 
 -- at the root
 pub slide_start : {near : List ℕ} {root : ℕ} → Sliding near root root 0 0
-slide_start = record { each = λ v. record { way = []; stands = start v.drawing }; few = omega arith }
+slide_start = record { each = λ v. record { way = []; stands = start v.drawing (by_start v.tree) }; few = omega arith }
 
 -- a way to one side has its last turn there at its last node
 slope_turn : (d : Side) (t : Tree) (w : List Frame) → last_turn d w ≡ above w
@@ -48,7 +49,7 @@ slid s none = record {
 
 module _ {near : List ℕ} {root here last n : ℕ} (v : Sloping near root) (s : Sliding near root here last n)
     (some : here ≢ 0) where
-  met : (u : Sloping near root) → Meeting u.side (λ _. toward u.side) u.tree here n (s.each u).way
+  met : (u : Sloping near root) → Meeting u.side (By (λ _. toward u.side)) u.tree here n (s.each u).way
   met u = meeting u.side (s.each u).stands some
 
   -- at a slot its child may be read
@@ -67,7 +68,7 @@ module _ {near : List ℕ} {root here last n : ℕ} (v : Sloping near root) (s :
         let m = met u in
         record {
           way = frame u.side m.color here m.far ∷ (s.each u).way;
-          stands = moved u.side m refl (got.is ∙ spot_near (met_spot u.drawing m));
+          stands = moved u.side m (sends u.side refl) (got.is ∙ spot_near (met_spot u.drawing m));
         };
     few = omega (arith, met_deep v.drawing (met v), (bounded v.drawing).small);
   }

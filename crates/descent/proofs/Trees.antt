@@ -1,8 +1,8 @@
 -- The descents for a caller whose lent numbers hold a tree: what each tells, in the words of the model's commands.
 use Prim.Native.Nat.{ℕ}
-use mathlib.Core.Bool.{false}
 use mathlib.Core.List.{[]}
 use mathlib.Core.Path.{◌≡◌, ◌∙◌}
+use lib.Dec.{ltb}
 use Rattle.model.specs.Tree.{Side, Tree, above, side_of}
 use Rattle.model.specs.Lent.{Lent, capacity, key_of}
 use Rattle.model.specs.Descent.{probes, insert_step, insert_landing, find_landing, find_slot, vacant, entry_for}
@@ -15,7 +15,7 @@ use Rattle.descent.specs.declared.types.Met.{Met}
 use Rattle.descent.specs.declared.types.InsertCursor.{InsertCursor}
 use Rattle.descent.specs.declared.types.Sought.{Sought}
 use Rattle.descent.specs.Entries.{place_told, entry_told}
-use Rattle.descent.specs.Searches.{Searchable, is_over, over_step, bound_landing, bound_slot, PathTo, MetAt}
+use Rattle.descent.specs.Searches.{Searchable, over_step, bound_landing, bound_slot, PathTo, MetAt}
 use Rattle.descent.specs.Searches.{FoundPath, FoundKey, FoundBound, FoundPlace, FoundEntry}
 use Rattle.descent.proofs.Downward.{last_node_empty}
 use Rattle.descent.proofs.Entering.{placed_insert}
@@ -55,21 +55,21 @@ module _ {m : Lent} {t : Tree} (h : Holds m t) where
       unfolding holds_searchable key_of
       entry_probes = f.probes_is holds_searchable
 
-    -- insert, by path and place: the probes, and the empty place
-    module _ {p : Path} (f : FoundPath m.arrays.left m.arrays.right m.arrays.key m.root k false p) where
-      insert_path : PathTo (insert_landing (key_of m.arrays) k t) p
-      unfolding holds_searchable key_of insert_landing insert_step over_step is_over
-      insert_path = f.is holds_searchable
+  -- insert, by path and place: the probes, and the empty place
+  module _ (k : ℕ) {p : Path} (f : FoundPath m.arrays.left m.arrays.right m.arrays.key m.root (ltb k) p) where
+    insert_path : PathTo (insert_landing (key_of m.arrays) k t) p
+    unfolding holds_searchable key_of insert_landing insert_step over_step
+    insert_path = f.is holds_searchable
 
-      pub insert_probes : p.probes ≡ probes (insert_landing (key_of m.arrays) k t)
-      insert_probes = insert_path.probes_is
+    pub insert_probes : p.probes ≡ probes (insert_landing (key_of m.arrays) k t)
+    insert_probes = insert_path.probes_is
 
-      pub insert_holds : {place : InsertCursor} → FoundPlace m.arrays.key p.last.0 k place
-          → let w = (insert_landing (key_of m.arrays) k t).way in place_told place ≡ vacant (above w) (side_of w)
-      unfolding key_of insert_landing
-      insert_holds q =
-          placed_insert m.arrays.key k t h.sound
-          (insert_path.last_is
-          ∙ last_node_empty (insert_landing (key_of m.arrays) k t)
-          (descend_leaf (insert_step (key_of m.arrays) k) t [] (insert_step_never (key_of m.arrays) k)))
-          q
+    pub insert_holds : {place : InsertCursor} → FoundPlace m.arrays.key p.last.0 k place
+        → let w = (insert_landing (key_of m.arrays) k t).way in place_told place ≡ vacant (above w) (side_of w)
+    unfolding key_of insert_landing
+    insert_holds q =
+        placed_insert m.arrays.key k t h.sound
+        (insert_path.last_is
+        ∙ last_node_empty (insert_landing (key_of m.arrays) k t)
+        (descend_leaf (insert_step (key_of m.arrays) k) t [] (insert_step_never (key_of m.arrays) k)))
+        q

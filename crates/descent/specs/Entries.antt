@@ -1,19 +1,13 @@
 -- What the code's entries mean in the model.
-use Rattle.std.specs.Prelude.{Bool, true, false}
-use Rattle.model.specs.Tree.{Side, lft, rgt}
 use Rattle.model.specs.Descent as model
+use Rattle.links.specs.Sides.{side_of}
 use Rattle.descent.specs.declared.types.InsertCursor.{InsertCursor}
 use Rattle.descent.specs.declared.types.Entry.{Entry}
 use Rattle.descent.specs.declared.types.Entry.TheVariants.{Occupied, Vacant}
 
--- the left side, if the test passes
-abbrev pub side_if : Bool → Side
-side_if true = lft
-side_if false = rgt
-
 -- an empty place as the model has it
 abbrev pub place_told : InsertCursor → model.Entry
-place_told at = model.vacant at.parent.0 (side_if at.on_left)
+place_told at = model.vacant at.parent.0 (side_of at.side)
 
 -- an entry as the model has it
 abbrev pub entry_told : Entry → model.Entry

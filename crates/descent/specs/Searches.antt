@@ -1,5 +1,5 @@
 -- What the descents require, and where they end: their promises hold of every tree that the arrays draw.
-use Rattle.std.specs.Prelude.{ℕ, ◌≤◌, Bool, false, List, [], ◌≡◌, eqb, leb, ltb, length}
+use Rattle.std.specs.Prelude.{ℕ, ◌≤◌, Bool, false, List, [], ◌≡◌, eqb, ltb, length}
 use Rattle.model.specs.Branch.{pick}
 use Rattle.model.specs.Tree.{Side, lft, rgt, Tree}
 use Rattle.model.specs.Lent.{at}
@@ -8,6 +8,9 @@ use Rattle.model.specs.Descent.{Step, leftward, rightward, left_if, Landing, des
 use Rattle.model.specs.Descent.{lower_landing, lower_slot, upper_landing, upper_slot, find_landing, find_slot}
 use Rattle.model.specs.Descent.{entry_for}
 use Rattle.theory.specs.Places.{Drawn}
+use Rattle.links.specs.declared.types.Key.{Key}
+use Rattle.links.specs.declared.types.View.{View}
+use Rattle.links.specs.Sides.{side_of}
 use Rattle.descent.specs.declared.types.Path.{Path}
 use Rattle.descent.specs.declared.types.Met.{Met}
 use Rattle.descent.specs.declared.types.InsertCursor.{InsertCursor}
@@ -15,6 +18,10 @@ use Rattle.descent.specs.declared.types.Sought.{Sought}
 use Rattle.descent.specs.Entries.{entry_told}
 
 -- ---- what a descent requires
+
+-- a demand on the numbers that a descent reads, or a promise about them
+abbrev pub Seen : {A : Type 1} → (List ℕ → List ℕ → List ℕ → ℕ → A) → View → A
+Seen f v = f v.left.now v.right.now v.key.now v.root.0
 
 -- The links draw a tree, and each slot has a key.
 pub record Searchable (left right key : List ℕ) (root : ℕ) : Type 0 where
@@ -35,28 +42,28 @@ pub record Sloping (near : List ℕ) (root : ℕ) : Type 0 where
 
 -- ---- its tests
 
--- is_over: the key held lies over k; with twins, an equal one does too
-unfoldable pub is_over : (k held : ℕ) → (twins : Bool) → Bool
-is_over k held twins = pick twins (leb k held) (ltb k held)
+-- path: over is what each call of its test tells of the key held
+abbrev pub Tells : (post : Key → Bool → Type 0) → (over : ℕ → Bool) → Type 0
+Tells post over = (held : Key) (told : Bool) → post held told → told ≡ over held.0
 
 -- is_leaf: both children are missing
-unfoldable pub childless : (first second : ℕ) → Bool
+abbrev pub childless : (first second : ℕ) → Bool
 childless a b = pick (eqb a 0) (eqb b 0) false
 
 -- place: there is a slot, and the key k belongs on its left
 unfoldable pub left_of : (key : List ℕ) → (slot k : ℕ) → Bool
 left_of key s k = pick (eqb s 0) false (ltb k (at key s))
 
--- the comparison of path: to the left at a node over k
-unfoldable pub over_step : (ℕ → ℕ) → (k : ℕ) → (twins : Bool) → ℕ → Step
-over_step key k twins x = left_if (is_over k (key x) twins)
+-- the comparison of path: to the left where the test of the key says so
+unfoldable pub over_step : (ℕ → ℕ) → (over : ℕ → Bool) → ℕ → Step
+over_step key over x = left_if (over (key x))
 
 -- that of edge: always to the side
 abbrev pub toward : Side → Step
 toward lft = leftward
 toward rgt = rightward
 
--- ---- the two bounds: lower_bound for the left side, upper_bound for the right one
+-- ---- the two bounds: the lower one for the left side, the upper one for the right side
 
 abbrev pub bound_landing : Side → (ℕ → ℕ) → (kind k : ℕ) → Tree → Landing
 bound_landing lft key kind k t = lower_landing key kind k t
@@ -71,6 +78,11 @@ bound_slot rgt e = upper_slot e
 -- the last node on the path, or 0
 unfoldable pub last_node : Landing → ℕ
 last_node e = first_slot (path e)
+
+-- the last turn of a path to the side
+abbrev pub turn_of : Side → Path → ℕ
+turn_of lft p = p.over.0
+turn_of rgt p = p.under.0
 
 -- its last node, the last turns to either side, and the probes
 pub record PathTo (e : Landing) (p : Path) : Type 0 where
@@ -99,12 +111,16 @@ pub record FoundEdge (near : List ℕ) (root : ℕ) (m : Met) : Type 0 where
 -- place: under the slot last, on the side where the key k belongs
 pub record FoundPlace (key : List ℕ) (last k : ℕ) (place : InsertCursor) : Type 0 where
   pub parent_is : place.parent.0 ≡ last
-  pub side_is : place.on_left ≡ left_of key last k
+  pub side_is : side_of place.side ≡ pick (left_of key last k) lft rgt
 
 module _ (left right key : List ℕ) (root : ℕ) where
-  -- path
-  pub record FoundPath (k : ℕ) (twins : Bool) (p : Path) : Type 0 where
-    pub is : (v : Searchable left right key root) → PathTo (descend (over_step (at key) k twins) v.tree []) p
+  -- path, to the left of the keys that pass the test
+  pub record FoundPath (over : ℕ → Bool) (p : Path) : Type 0 where
+    pub is : (v : Searchable left right key root) → PathTo (descend (over_step (at key) over) v.tree []) p
+    pub top : p.last.0 ≤ length key
+
+  pub record FoundPathBy (post : Key → Bool → Type 0) (p : Path) : Type 0 where
+    pub is : (over : ℕ → Bool) → Tells post over → FoundPath over p
     pub top : p.last.0 ≤ length key
 
   -- find
@@ -113,7 +129,7 @@ module _ (left right key : List ℕ) (root : ℕ) where
         → MetAt (find_landing (at key) k v.tree) (find_slot (at key) k v.tree) m
     pub top : m.last.0 ≤ length key
 
-  -- lower_bound and upper_bound
+  -- bound
   pub record FoundBound (d : Side) (kind k : ℕ) (m : Met) : Type 0 where
     pub is : (v : Searchable left right key root) → let e = bound_landing d (at key) kind k v.tree in
         MetAt e (bound_slot d e) m

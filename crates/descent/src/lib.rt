@@ -4,51 +4,44 @@
 pub mod types;
 
 ghost use Rattle.std.specs.Prelude.{◌≡◌, ◌≤◌, length};
-ghost use Rattle.model.specs.Tree.{lft, rgt};
-ghost use Rattle.descent.specs.Searches.{Searchable, Sloping, is_over, childless, met_of, FoundPath, FoundEdge};
-ghost use Rattle.descent.specs.Searches.{FoundKey, FoundBound, FoundPlace, FoundEntry};
+ghost use Rattle.links.specs.Sides.{side_of};
+ghost use Rattle.descent.specs.Bounds.{kind_of, key_in};
+ghost use Rattle.descent.specs.Searches.{Seen, Searchable, Sloping, childless, turn_of, met_of};
+ghost use Rattle.descent.specs.Searches.{FoundPathBy, FoundEdge, FoundKey, FoundBound, FoundPlace, FoundEntry};
 
-use links::types::{Key, Slot};
+use links::types::{Key, Side, Slot, View};
+use std::ops::Bound;
 use types::{Cursor, Entry, InsertCursor, Met, Path, Sought};
-
-// Whether the key held lies over k; with `twins`, an equal one does too.
-fn is_over(k: Key, held: Key, twins: bool) -> bool
-    ensures { result ≡ is_over k.0 held.0 twins }
-{
-    if twins { k.0 <= held.0 } else { k.0 < held.0 }
-}
 
 // Whether both children are missing.
 fn is_leaf(first: Slot, second: Slot) -> bool
     ensures { result ≡ childless first.0 second.0 }
 {
-    if first.0 != 0 {
-        return false;
-    }
-    second.0 == 0
+    first.0 == 0 && second.0 == 0
 }
 
-// Goes left at a node over k, else right, until a child is missing. Both children are read at once, so that the next
-// step waits for no branch; a leaf ends it early.
-pub fn path(left: &[u32], right: &[u32], key: &[u64], root: Slot, k: Key, twins: bool) -> Path
-    requires { Searchable left.now right.now key.now root.0 }
-    ensures { FoundPath left.now right.now key.now root.0 k.0 twins result }
+// Goes left at a node whose key passes the test, else right, until a child is missing. Both children are read at once,
+// so that the next step waits for no branch; a leaf ends it early.
+pub fn path<F: Fn(Key) -> bool>(view: View, goes_left: F) -> Path
+    requires tree { Seen Searchable view }
+    requires calls { F.IsAlwaysCallable goes_left }
+    ensures { Seen FoundPathBy view.entry (F.post goes_left) result }
 {
-    let mut here = root;
+    let mut here = view.root;
     let mut last = Slot(0);
     let mut under = Slot(0);
     let mut over = Slot(0);
     let mut probes = 0u32;
     while here.0 != 0 {
-        let held = links::key_of(key, here);
-        let first = links::get(left, here);
-        let second = links::get(right, here);
-        let goes_left = is_over(k, held, twins);
+        let held = links::key_of(view.key, here);
+        let first = links::get(view.left, here);
+        let second = links::get(view.right, here);
+        let leftward = goes_left(held);
         last = here;
         probes += 1;
-        over = links::pick(goes_left, here, over);
-        under = links::pick(goes_left, under, here);
-        here = links::pick(goes_left, first, second);
+        over = links::pick(leftward, here, over);
+        under = links::pick(leftward, under, here);
+        here = links::pick(leftward, first, second);
         if is_leaf(first, second) {
             break;
         }
@@ -81,24 +74,24 @@ pub fn edge(near: &[u32], root: Slot) -> Met
     }
 }
 
-// As `path` for k without twins, but stops at an equal key.
-pub fn find(left: &[u32], right: &[u32], key: &[u64], root: Slot, k: Key) -> Met
-    requires { Searchable left.now right.now key.now root.0 }
-    ensures { FoundKey left.now right.now key.now root.0 k.0 result }
+// As `path` to the left of the keys over k, but stops at an equal one.
+pub fn find(view: View, k: Key) -> Met
+    requires { Seen Searchable view }
+    ensures { Seen FoundKey view.entry k.0 result }
 {
-    let mut here = root;
+    let mut here = view.root;
     let mut last = Slot(0);
     let mut probes = 0u32;
     while here.0 != 0 {
-        let held = links::key_of(key, here);
-        let first = links::get(left, here);
-        let second = links::get(right, here);
+        let held = links::key_of(view.key, here);
+        let first = links::get(view.left, here);
+        let second = links::get(view.right, here);
         last = here;
         probes += 1; // a node with the key is looked at too
-        if held.0 == k.0 {
+        if held == k {
             break;
         }
-        here = links::pick(k.0 < held.0, first, second);
+        here = links::pick(k < held, first, second);
         if is_leaf(first, second) {
             break;
         }
@@ -110,55 +103,35 @@ pub fn find(left: &[u32], right: &[u32], key: &[u64], root: Slot, k: Key) -> Met
     }
 }
 
-// The last turn of a path to the left: the first node over its key.
-fn first_over(p: Path) -> Met
-    ensures { result ≡ met_of p.over.0 p.last.0 p.probes }
+// The last turn of a path to the left, which is the first node whose key passes, or to the right, the last before it.
+fn turned(path: Path, side: Side) -> Met
+    ensures { result ≡ met_of (turn_of (side_of side) path) path.last.0 path.probes }
 {
-    let slot = p.over;
-    let last = p.last;
+    let slot = match side {
+        Side::Left => path.over,
+        Side::Right => path.under,
+    };
     Met {
         slot,
-        last,
-        probes: p.probes,
+        last: path.last,
+        probes: path.probes,
     }
 }
 
-// The last turn to the right: the last node that isn't over its key.
-fn last_under(p: Path) -> Met
-    ensures { result ≡ met_of p.under.0 p.last.0 p.probes }
+// For the left side the first slot within a lower bound, for the right side the last one within an upper bound.
+pub fn bound(view: View, side: Side, bound: Bound<Key>) -> Met
+    requires { Seen Searchable view }
+    ensures { Seen FoundBound view.entry (side_of side) (kind_of bound) (key_in bound) result }
 {
-    let slot = p.under;
-    let last = p.last;
-    Met {
-        slot,
-        last,
-        probes: p.probes,
-    }
-}
-
-// The first slot with a key not below k, or above it: kind 0 is Unbounded, 1 Included, 2 Excluded.
-pub fn lower_bound(left: &[u32], right: &[u32], key: &[u64], root: Slot, kind: u32, k: Key) -> Met
-    requires { Searchable left.now right.now key.now root.0 }
-    ensures { FoundBound left.now right.now key.now root.0
-        lft kind k.0 result }
-{
-    match kind {
-        0 => edge(left, root),
-        1 => first_over(path(left, right, key, root, k, true)),
-        _ => first_over(path(left, right, key, root, k, false)),
-    }
-}
-
-// The last slot with a key not above k, or below it.
-pub fn upper_bound(left: &[u32], right: &[u32], key: &[u64], root: Slot, kind: u32, k: Key) -> Met
-    requires { Searchable left.now right.now key.now root.0 }
-    ensures { FoundBound left.now right.now key.now root.0
-        rgt kind k.0 result }
-{
-    match kind {
-        0 => edge(right, root),
-        1 => last_under(path(left, right, key, root, k, false)),
-        _ => last_under(path(left, right, key, root, k, true)),
+    match (side, bound) {
+        (Side::Left, Bound::Unbounded) => edge(view.left, view.root),
+        (Side::Right, Bound::Unbounded) => edge(view.right, view.root),
+        (Side::Left, Bound::Included(k)) | (Side::Right, Bound::Excluded(k)) => {
+            turned(path(view, |held| k <= held), side)
+        }
+        (Side::Left, Bound::Excluded(k)) | (Side::Right, Bound::Included(k)) => {
+            turned(path(view, |held| k < held), side)
+        }
     }
 }
 
@@ -167,37 +140,27 @@ pub fn place(key: &[u64], last: Slot, k: Key) -> InsertCursor
     requires { last.0 ≤ length key.now }
     ensures { FoundPlace key.now last.0 k.0 result }
 {
-    if last.0 == 0 {
-        return InsertCursor {
-            parent: last,
-            on_left: false,
-        };
-    }
-    let held = links::key_of(key, last);
-    InsertCursor {
-        parent: last,
-        on_left: k.0 < held.0,
-    }
+    let side = match last.0 {
+        0 => Side::Right,
+        _ if k < links::key_of(key, last) => Side::Left,
+        _ => Side::Right,
+    };
+    InsertCursor { parent: last, side }
 }
 
 // The slot where find halts, or the place where it ends.
-pub fn entry(left: &[u32], right: &[u32], key: &[u64], root: Slot, k: Key) -> Sought
-    requires { Searchable left.now right.now key.now root.0 }
-    ensures { FoundEntry left.now right.now key.now root.0 k.0 result }
+pub fn entry(view: View, k: Key) -> Sought
+    requires { Seen Searchable view }
+    ensures { Seen FoundEntry view.entry k.0 result }
 {
-    let met = find(left, right, key, root, k);
-    let found = met.slot;
-    if found.0 == 0 {
-        let last = met.last;
-        let at = place(key, last, k);
-        Sought {
-            entry: Entry::Vacant(at),
-            probes: met.probes,
-        }
+    let met = find(view, k);
+    let entry = if met.slot.0 == 0 {
+        Entry::Vacant(place(view.key, met.last, k))
     } else {
-        Sought {
-            entry: Entry::Occupied(Cursor { slot: found }),
-            probes: met.probes,
-        }
+        Entry::Occupied(Cursor { slot: met.slot })
+    };
+    Sought {
+        entry,
+        probes: met.probes,
     }
 }

@@ -1,5 +1,5 @@
 // What a descent from the root tells.
-use links::types::Slot;
+use links::types::{Side, Slot};
 
 // A descent down to a missing child: its last node, the last nodes at which it turned right and left, each 0 where
 // there is none, and how many nodes it has looked at.
@@ -20,20 +20,20 @@ pub struct Met {
 }
 
 // A position: a slot, or 0.
-#[derive(Clone, Copy)]
+#[derive(Clone, Copy, PartialEq, Eq)]
 pub struct Cursor {
     pub slot: Slot,
 }
 
 // An empty place: the parent, 0 in an empty tree, and on which side of it.
-#[derive(Clone, Copy)]
+#[derive(Clone, Copy, PartialEq, Eq)]
 pub struct InsertCursor {
     pub parent: Slot,
-    pub on_left: bool,
+    pub side: Side,
 }
 
 // What is there for a key: a slot that has it, or the empty place where it belongs.
-#[derive(Clone, Copy)]
+#[derive(Clone, Copy, PartialEq, Eq)]
 pub enum Entry {
     Occupied(Cursor),
     Vacant(InsertCursor),

@@ -1,5 +1,5 @@
--- step, walk, next and prev: the slot found is the next in the order of the side.
-use Prim.Native.Nat.{ℕ}
+-- walk and neighbour: the slot found is the next in the order of the side.
+use Prim.Native.Nat.{ℕ, ◌≤◌}
 use mathlib.Core.List.{List, ◌∷◌}
 use mathlib.Core.Path.{◌≡◌, ap, ◌∙◌}
 use mathlib.Core.Logic.{⊎_elim}
@@ -21,13 +21,31 @@ use Rattle.theory.proofs.Sided.{sided_opp, sided_root, sided_near}
 use Rattle.theory.proofs.Walking.{walk_drawn}
 use Rattle.theory.proofs.Places.{flip, bounded, long, spot_low, spot_high, spot_bounded, spot_near}
 use Rattle.theory.proofs.Depth.{sound_height}
+use Rattle.links.specs.declared.types.Side as code
+use Rattle.links.specs.declared.types.Side.TheVariants.{Left, Right}
+use Rattle.links.specs.Sides.{side_of}
 use Rattle.links.specs.Reads.{GetPre, Got}
 use Rattle.walks.specs.Ends.{front_at, EndPre, EndPost, FrontPre, FrontPost, ClimbPre, ClimbPost}
-use Rattle.walks.specs.Steps.{StepPre, StepPost, Position, WalkPre, Walked, Followed, Preceded}
+use Rattle.walks.specs.Steps.{Position, WalkPre, Walked, Adjoined}
 use Rattle.walks.proofs.Spines.{end_sided}
 use Rattle.walks.proofs.Rises.{rise_sided}
 
--- ---- step
+-- ---- a step from a slot
+
+-- the slot x stands in a tree, and near is the child array of one side
+pub record StepPre (near far pc : List ℕ) (x : ℕ) : Type 0 where
+  pub side : Side
+  pub root : ℕ
+  pub size : ℕ
+  pub color : Color
+  pub near_tree : Tree
+  pub far_tree : Tree
+  pub way : List Frame
+  pub spot : Spot side near far pc root size side color near_tree x far_tree way
+
+pub record StepPost (near far pc : List ℕ) (x found : ℕ) : Type 0 where
+  pub is : (d : Side) (root : ℕ) → found ≡ step_to d (length near) (sided d near far pc root) x
+  pub top : found ≤ length near
 
 -- the near child, as the start of a chain by the far links
 child_end : (d : Side) {near far pc : List ℕ} {root C : ℕ} {c : Color} (a : Tree) {b : Tree} {x : ℕ} {w : List Frame}
@@ -155,11 +173,31 @@ module _ {near far pc : List ℕ} {root p : ℕ} (k : WalkPre near far pc root p
         top = omega (arith, m.top);
       }
 
-  pub walked_step : {found : ℕ} → (p ≡ 0 → ⊥) → StepPost near far pc p found → Walked near far pc root p found
-  unfolding walk_to
-  walked_step n m = record { is = λ d. rw (ne_eqb p 0 n) (m.is d root); top = m.top }
+  module _ (n : p ≡ 0 → ⊥) where
+    v : StepPre near far pc p
+    v = walk_step n
 
--- ---- next and prev
+    pub walk_get : GetPre near p
+    walk_get = step_get v
+
+    pub walk_climb : ClimbPre far pc p
+    walk_climb = step_climb v
+
+    walked_step : {found : ℕ} → StepPost near far pc p found → Walked near far pc root p found
+    unfolding walk_to
+    walked_step m = record { is = λ d. rw (ne_eqb p 0 n) (m.is d root); top = m.top }
+
+    module _ {y : ℕ} (g : Got near p y) where
+      pub walk_end : (y ≡ 0 → ⊥) → EndPre far y
+      walk_end some = step_end v g some
+
+      pub walked_end : {found : ℕ} → (y ≡ 0 → ⊥) → EndPost far y found → Walked near far pc root p found
+      walked_end some m = walked_step (stepped_end v g some m)
+
+      pub walked_climb : {found : ℕ} → y ≡ 0 → ClimbPost far pc p found → Walked near far pc root p found
+      walked_climb none m = walked_step (stepped_climb v g none m)
+
+-- ---- neighbour
 
 -- what walk_to finds on a drawing
 found_next : {d : Side} {near far pc : List ℕ} {root p : ℕ} (v : Position d near far pc root p)
@@ -174,24 +212,16 @@ flipped : {near far pc : List ℕ} {root p : ℕ} (d : Side) → Position d near
     → Position (opp d) far near pc root p
 flipped d v = record { size = v.size; tree = v.tree; held = flip v.held; stands = v.stands }
 
-module _ {left right pc : List ℕ} {root p : ℕ} where
-  -- what their call asks for
-  pub next_walk : Position lft left right pc root p → WalkPre right left pc root p
-  next_walk v = record { side = rgt; position = flipped lft v }
-
-  pub prev_walk : Position lft left right pc root p → WalkPre left right pc root p
-  prev_walk v = record { side = lft; position = v }
-
-  -- what they promise
-  pub followed : {found : ℕ} → Position lft left right pc root p → Walked right left pc root p found
-      → Followed left right pc root p found
-  unfolding flipped
-  followed v₀ m =
-      record {
-        is = λ v. m.is rgt ∙ found_next (flipped lft v);
-        top = omega (arith, m.top, (bounded v₀.held).same_far);
-      }
-
-  pub preceded : {found : ℕ} → Walked left right pc root p found → Preceded left right pc root p found
+-- what it promises
+module _ {left right pc : List ℕ} {root p : ℕ} (side : code.Side) {found : ℕ} where
+  pub preceded : side ≡ Left → Walked left right pc root p found → Adjoined (side_of side) left right pc root p found
   unfolding prev_in
-  preceded m = record { is = λ v. m.is lft ∙ found_next v; top = m.top }
+  preceded e m = rw e (record { is = λ v. m.is lft ∙ found_next v; top = m.top })
+
+  pub followed : side ≡ Right → Position lft left right pc root p → Walked right left pc root p found
+      → Adjoined (side_of side) left right pc root p found
+  unfolding flipped
+  followed e v₀ m = rw e (record {
+    is = λ v. m.is rgt ∙ found_next (flipped lft v);
+    top = omega (arith, m.top, (bounded v₀.held).same_far);
+  })

@@ -1,5 +1,5 @@
 -- climb: its loop goes up the way of the tree, so it ends, at the first slot that hangs on the side or at the root.
-use Prim.Native.Nat.{ℕ, zero, suc, ◌<◌}
+use Prim.Native.Nat.{ℕ, zero, suc, ◌≤◌, ◌<◌}
 use mathlib.Core.List.{List, [], ◌∷◌}
 use mathlib.Core.Path.{◌≡◌, refl, sym, ap, ◌∙◌}
 use native.Mathlib.Omega.{arith}
@@ -129,28 +129,37 @@ module _ {links pc : List ℕ} {x here : ℕ} (k : Climbing links pc x here) whe
     climb_root e =
         record { is = sym (rise_none (length pc) links pc here (sym g.is ∙ e)) ∙ k.same; top = omega arith }
 
-    module _ (n : p ≡ 0 → ⊥) where
-      pub climb_get : GetPre links p
+    module _ {parent : ℕ} (s : (0 < parent) × (parent ≡ p)) where
+      is : parent ≡ parent_at pc here
+      is = s.1 ∙ g.is
+
+      some : parent ≡ 0 → ⊥
+      some e = omega (arith, s.0)
+
+      top : parent ≤ length pc
+      top = omega (arith, s.1, g.top)
+
+      pub climb_get : GetPre links parent
       climb_get =
           let b = spot_bounded k.seen.spot in
-          record { pos = omega arith; top = omega (arith, g.top, b.same_pc); below = b.near_below }
+          record { pos = s.0; top = omega (arith, top, b.same_pc); below = b.near_below }
 
-      module _ {y : ℕ} (f : Got links p y) where
-        pub climb_found : y ≡ here → ClimbPost links pc x p
+      module _ {y : ℕ} (f : Got links parent y) where
+        pub climb_found : y ≡ here → ClimbPost links pc x parent
         climb_found hit =
             record {
-              is = sym (rise_found (length pc) links pc here p (omega (arith, g.top)) g.is n (sym f.is ∙ hit))
+              is = sym (rise_found (length pc) links pc here parent (omega (arith, s.0, top)) is some (sym f.is ∙ hit))
                   ∙ k.same;
-              top = g.top;
+              top = top;
             }
 
         module _ (apart : y ≡ here → ⊥) where
-          turn : Raised links pc here p
-          turn = raised k.seen.way p k.seen.spot g.is n (λ i. apart (f.is ∙ i))
+          turn : Raised links pc here parent
+          turn = raised k.seen.way parent k.seen.spot is some (λ i. apart (f.is ∙ i))
 
           -- otherwise it still holds at the parent, with less left
-          pub climb_on : Climbing links pc x p
+          pub climb_on : Climbing links pc x parent
           climb_on = record { seen = turn.climbing.seen; same = turn.climbing.same ∙ k.same }
 
-          pub climb_less : steps_left links pc p < steps_left links pc here
+          pub climb_less : steps_left links pc parent < steps_left links pc here
           climb_less = turn.less

@@ -160,15 +160,15 @@ module _ {links : List ℕ} {x here : ℕ} (k : Going links x here) where
           top = spot_high s;
         }
 
-    module _ (n : y ≡ 0 → ⊥) where
-      turn : Gone links here y
-      turn = gone k.seen.side k.seen.near y k.seen.spot g.is n
+    -- otherwise it still holds at the child, with less left
+    module _ {child : ℕ} (s : (0 < child) × (child ≡ y)) where
+      turn : Gone links here child
+      turn = gone k.seen.side k.seen.near child k.seen.spot (s.1 ∙ g.is) (λ e. omega (arith, s.0))
 
-      -- otherwise it still holds at the child, with less left
-      pub going_on : Going links x y
+      pub going_on : Going links x child
       going_on = record { seen = turn.going.seen; same = turn.going.same ∙ k.same }
 
-      pub going_less : links_left links y < links_left links here
+      pub going_less : links_left links child < links_left links here
       going_less = turn.less
 
 -- ---- front

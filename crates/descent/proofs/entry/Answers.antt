@@ -1,10 +1,9 @@
+use Rattle.std.proofs.Common.{rules}
 use Rattle.descent.proofs.Entering.{entered_vacant, entered_occupied}
 use Rattle.descent.proofs.entry.Goals as goal
 
-pub returns-then-found-eq0 : goal.returns-then-found-eq0
-returns-then-found-eq0 c =
-    entered_vacant c.find-met.ensures c.if-found-eq0.true c.place-at.ensures
+pub returns-then-met-eq0 : goal.returns-then-met-eq0
+returns-then-met-eq0 c = search (rules, entered_vacant)
 
-pub returns-else-found-eq0 : goal.returns-else-found-eq0
-returns-else-found-eq0 c =
-    entered_occupied c.find-met.ensures c.if-found-eq0.false
+pub returns-else-met-eq0 : goal.returns-else-met-eq0
+returns-else-met-eq0 c = search (rules, entered_occupied)

@@ -1,10 +1,12 @@
-use Rattle.descent.proofs.Entering.{placed_none, placed_under}
+use Rattle.std.proofs.Common.{rules}
+use Rattle.descent.proofs.Entering.{placed_none, placed_left, placed_right}
 use Rattle.descent.proofs.place.Goals as goal
 
-pub returns-then-last-eq0 : goal.returns-then-last-eq0
-returns-then-last-eq0 c =
-    placed_none c.if-last-eq0.true
+pub returns-in-0 : goal.returns-in-0
+returns-in-0 c = search (rules, placed_none)
 
-pub returns : goal.returns
-returns c =
-    placed_under c.if-last-eq0.false c.key_of-held.ensures
+pub returns-in_default : goal.returns-in_default
+returns-in_default c = search (rules, placed_left)
+
+pub returns-in_default-2 : goal.returns-in_default-2
+returns-in_default-2 c = search (rules, placed_right)

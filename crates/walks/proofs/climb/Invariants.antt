@@ -2,10 +2,10 @@
 use Rattle.walks.proofs.Rises.{Climbing, steps_left}
 use Rattle.walks.proofs.climb.Given as goal
 
-abbrev pub invariant-loop-here : goal.invariant-loop-here
-invariant-loop-here l =
+abbrev pub invariant-loop-parent : goal.invariant-loop-parent
+invariant-loop-parent l =
     Climbing l.links l.pc l.initial.here.0 l.here.0
 
-abbrev pub decreases-loop-here : goal.decreases-loop-here
-decreases-loop-here l =
+abbrev pub decreases-loop-parent : goal.decreases-loop-parent
+decreases-loop-parent l =
     steps_left l.links l.pc l.here.0
