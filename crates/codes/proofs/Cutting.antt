@@ -1,44 +1,40 @@
 -- Cutting the spaces at both ends of a line, a byte at a time.
-use Prim.Native.Nat.{ℕ, suc, ◌+◌, ◌-◌, ◌≤◌, ◌<◌}
-use mathlib.Core.Path.{◌≡◌, refl, sym, ◌∙◌}
-use mathlib.Core.List.{List, [], ◌∷◌, ◌++◌}
-use native.Mathlib.Numerals.{add-one}
+use Prim.Native.Nat.{ℕ, suc, ◌+◌, ◌-◌, ◌≤◌}
+use mathlib.Core.Path.{◌≡◌, refl, ◌∙◌}
+use mathlib.Core.Bool.{Bool, true, false, cond}
+use mathlib.Core.Logic.{by_cases}
+use native.Mathlib.Decide.{ℕ_discrete}
+use mathlib.Core.List.{List, [], ◌∷◌, ◌++◌, reverse, reverse-cons, reverse-reverse}
 use native.Mathlib.Omega.{arith}
-use lib.ListN.{length, get_or, take, drop, length-drop, drop_of_length-le}
-use lib.Seq.{take-suc, drop-cons, take_all, take-length}
+use lib.Dec.{eqb}
+use lib.ListN.{length, take, drop, length-drop}
+use lib.Seq.{take_all}
 use borrow.Author.Tests.{eq-eqb, ne_eqb}
+use Rattle.std.specs.List.{prefix_len}
+use Rattle.std.proofs.lemmas.List.{take-append-le, length-reverse, length-append}
+use Rattle.std.proofs.lemmas.List.Sums.{prefix_len-le-length}
+use Rattle.model.specs.Branch.{choose}
 use Rattle.model.specs.Codes.{drop_spaces, keep, strip_end, trimmed}
 use Rattle.codes.specs.Reading.{Start, End}
 
 -- ---- at the start
 
--- The first a bytes of the line are spaces: to cut them first changes nothing.
-pub record Passed (line : List ℕ) (a : ℕ) : Type 0 where
-  pub within : a ≤ length line
-  pub same : drop_spaces (drop a line) ≡ drop_spaces line
+-- how many spaces are in front
+abbrev pub spaces : List ℕ → ℕ
+spaces s = prefix_len (λ b. eqb b 32) s
 
-pub none_passed : (s : List ℕ) → Passed s 0
-none_passed s = record { within = omega arith; same = refl }
+drop_leading : (s : List ℕ) → drop (spaces s) s ≡ drop_spaces s
+unfolding drop_spaces
+drop_leading [] = refl
+drop_leading (b ∷ s) = go (eqb b 32) (drop_leading s)
+  where
+    go : (t : Bool) → drop (spaces s) s ≡ drop_spaces s →
+        drop (cond t (1 + spaces s) 0) (b ∷ s) ≡ choose t (λ _. drop_spaces s) (λ _. b ∷ s)
+    go true e = let q : 1 + spaces s ≡ suc (spaces s) = omega arith in rw q e
+    go false e = refl
 
--- A space is passed; any other byte is where the line starts, and so is its end.
-module _ {s : List ℕ} {a : ℕ} (p : Passed s a) where
-  drop_space : a < length s → get_or s a 0 ≡ 32 → drop_spaces (drop a s) ≡ drop_spaces (drop (suc a) s)
-  unfolding drop_spaces
-  drop_space h e = rw (drop-cons s a 0 h, e)
-
-  drop_other : a < length s → (get_or s a 0 ≡ 32 → ⊥) → drop_spaces (drop a s) ≡ drop a s
-  unfolding drop_spaces
-  drop_other h f = simp (drop-cons s a 0 h, ne_eqb _ _ f)
-
-  pub pass_space : a < length s → get_or s a 0 ≡ 32 → Passed s (a + 1)
-  pass_space h e = record { within = omega arith; same = rw add-one (sym (drop_space h e) ∙ p.same) }
-
-  pub start_here : a < length s → (get_or s a 0 ≡ 32 → ⊥) → Start s a
-  start_here h f = record { within = p.within; is = sym (drop_other h f) ∙ p.same }
-
-  pub start_past : length s ≤ a → Start s a
-  unfolding drop_spaces
-  start_past h = record { within = p.within; is = drop_of_length-le s h ∙ (rw (drop_of_length-le s h) at p.same) }
+pub start_is : (s : List ℕ) → Start s (spaces s)
+start_is s = record { within = prefix_len-le-length (λ b. eqb b 32) s; is = drop_leading s }
 
 -- ---- at the end
 
@@ -56,46 +52,43 @@ unfolding strip_end
 strip_other [] b f = rw (ne_eqb b 32 f)
 strip_other (x ∷ s) b f = rw (strip_other s b f) (keep_before x s b)
 
--- All but the first e bytes of the line are spaces: to cut them first changes nothing.
-pub record Left (line : List ℕ) (e : ℕ) : Type 0 where
-  pub within : e ≤ length line
-  pub same : strip_end (take e line) ≡ strip_end line
+-- The line from its end on: a space goes, and any other byte stays, with all before it.
+strip_last : (r : List ℕ) → take (length r - spaces r) (reverse r) ≡ strip_end (reverse r)
+unfolding strip_end
+strip_last [] = refl
+strip_last (b ∷ r) = rw reverse-cons (by_cases (ℕ_discrete b 32) (space (strip_last r)) other)
+  where
+    most : length r ≤ length (reverse r)
+    most = omega (arith, length-reverse r)
 
-pub all_left : (s : List ℕ) → Left s (length s)
-all_left s = record { within = omega arith; same = rw take-length }
+    space : take (length r - spaces r) (reverse r) ≡ strip_end (reverse r) → b ≡ 32 →
+        take (suc (length r) - cond (eqb b 32) (1 + spaces r) 0) (reverse r ++ b ∷ []) ≡ strip_end (reverse r ++ b ∷ [])
+    space rest e =
+        let q : suc (length r) - (1 + spaces r) ≡ length r - spaces r = omega arith in
+        rw (strip_space (reverse r) b e, eq-eqb b 32 e, q)
+        (take-append-le (length r - spaces r) (reverse r) (b ∷ []) (omega (arith, most)) ∙ rest)
 
--- A last byte that is a space goes; with any other the line ends, or with none.
-module _ {s : List ℕ} {e : ℕ} (p : Left s e) where
-  last : 0 < e → take e s ≡ take (e - 1) s ++ get_or s (e - 1) 0 ∷ []
-  last h =
-      let q : suc (e - 1) ≡ e = omega arith in
-      rw q at (take-suc s (e - 1) 0 (omega (arith, p.within)))
+    other : (b ≡ 32 → ⊥) →
+        take (suc (length r) - cond (eqb b 32) (1 + spaces r) 0) (reverse r ++ b ∷ []) ≡ strip_end (reverse r ++ b ∷ [])
+    other f =
+        rw (strip_other (reverse r) b f, ne_eqb b 32 f)
+        (take_all (suc (length r) - 0) (reverse r ++ b ∷ [])
+        (omega (arith, length-reverse r, length-append (reverse r) (b ∷ []))))
 
-  take_space : 0 < e → get_or s (e - 1) 0 ≡ 32 → strip_end (take e s) ≡ strip_end (take (e - 1) s)
-  take_space h q = rw (last h) (strip_space (take (e - 1) s) (get_or s (e - 1) 0) q)
-
-  take_other : 0 < e → (get_or s (e - 1) 0 ≡ 32 → ⊥) → strip_end (take e s) ≡ take e s
-  take_other h f = rw (last h) (strip_other (take (e - 1) s) (get_or s (e - 1) 0) f)
-
-  pub leave_space : 0 < e → get_or s (e - 1) 0 ≡ 32 → Left s (e - 1)
-  leave_space h q = record { within = omega (arith, p.within); same = sym (take_space h q) ∙ p.same }
-
-  pub end_here : 0 < e → (get_or s (e - 1) 0 ≡ 32 → ⊥) → End s e
-  end_here h f = record { within = p.within; is = sym (take_other h f) ∙ p.same }
-
-  pub end_none : e ≤ 0 → End s e
-  unfolding strip_end
-  end_none h = let z : e ≡ 0 = omega arith in record { within = p.within; is = rw z (rw z at p.same) }
+pub end_is : (s : List ℕ) → End s (length s - spaces (reverse s))
+end_is s = record {
+  within = omega arith;
+  is = rw (← length-reverse s) (rw (reverse-reverse s) at (strip_last (reverse s)));
+}
 
 -- ---- both
 
--- What the end leaves of what the start leaves is the trimmed line, as its bytes from a up to a + n.
+-- What the end leaves of what the start leaves is the trimmed line, as its first n bytes from a on.
 pub cut_both :
     {s : List ℕ} {a n : ℕ} → Start s a → End (take (length s - a) (drop a s)) n →
-    take (a + n - a) (drop a s) ≡ trimmed s
+    take n (take (length s - a) (drop a s)) ≡ trimmed s
 unfolding trimmed
 cut_both {s} {a} {n} p q =
     let rest : take (length s - a) (drop a s) ≡ drop a s =
     take_all (length s - a) (drop a s) (simp length-drop (omega arith)) in
-    let count : a + n - a ≡ n = omega arith in
-    rw (count, ← p.is) (rw rest at q.is)
+    rw (rest, ← p.is) (rw rest at q.is)

@@ -1,9 +1,10 @@
 -- The key of a part, a place at a time: the places passed have values, and make the number so far.
 use Prim.Native.Nat.{ℕ, ◌+◌, ◌*◌, ◌^◌, ◌≤◌, ◌<◌}
 use mathlib.Core.Path.{◌≡◌, refl, sym, ap, ◌∙◌}
-use mathlib.Core.Bool.{false≢true}
+use mathlib.Core.Bool.{Bool, true, false, false≢true}
+use lib.Dec.{eqb}
 use mathlib.Core.List.{List, []}
-use mathlib.Core.Logic.{inr, by_cases}
+use mathlib.Core.Logic.{◌⊎◌, inl, inr, ⊎_elim, by_cases}
 use mathlib.Core.Option.{none, some, some-ne-none}
 use native.Mathlib.Nat.{pow-le-pow_right}
 use native.Mathlib.Numerals.{add-one}
@@ -12,21 +13,21 @@ use native.Mathlib.Omega.{arith}
 use lib.ListN.{length, get_or}
 use mir.Syntax.{w64}
 use mir.Val.{Fits}
-use borrow.Author.Tests.{lt-ltb, le-ltb}
+use borrow.Author.Tests.{eqb-true, lt-ltb, le-ltb}
 use borrow.Author.Count.{below_more}
 use Rattle.model.specs.Limits.{code_limit}
-use Rattle.model.specs.Answers.{done}
 use Rattle.model.specs.Codes.{trimmed, value_of, some_or0, place_value, key_up_to, Reading, read_part, read_line}
 use Rattle.theory.specs.Spelling.{Character, Stray, Bad}
 use Rattle.theory.proofs.CodeValues.{value_character}
 use Rattle.theory.proofs.CodeParts.{place_within, place_past, key_small, read_good, read_bad}
 use Rattle.theory.proofs.Codes.{good_reading_lem, bad_reading_lem}
-use Rattle.links.specs.Answers.{code_of}
-use Rattle.links.specs.declared.types.Code.TheVariants.{Done}
-use Rattle.codes.specs.declared.types.Coded.{Coded}
-use Rattle.codes.specs.declared.types.Digit.{Digit}
-use Rattle.codes.specs.declared.types.Digit.TheVariants.{Value, Refused}
-use Rattle.codes.specs.Reading.{digit_of, place_of, Keyed, Refusal}
+use Rattle.std.specs.Prelude as std
+use Rattle.std.specs.Prelude.{Some, None, Result, Ok, Err}
+use Rattle.links.specs.declared.types.Key.{Key}
+use Rattle.links.specs.declared.types.Refusal.{Refusal}
+use Rattle.links.specs.declared.types.Refusal.TheVariants.{BadCode}
+use Rattle.codes.specs.Reading.{digit_of, place_of, code_of, Keyed}
+use Rattle.codes.proofs.Told.{refused}
 
 -- ---- a place
 
@@ -72,8 +73,8 @@ unfolding key_up_to
 none_yet s = record { within = omega arith; is = refl; spelled = λ k h. absurd (omega arith) }
 
 -- One place more, with its value.
-module _ {s : List ℕ} {sum i v : ℕ} {d : Digit}
-    (p : Sofar s sum i) (h : i < code_limit) (e : digit_of d ≡ place_of s i) (q : d ≡ Value v) where
+module _ {s : List ℕ} {sum i v : ℕ} {d : std.Option ℕ}
+    (p : Sofar s sum i) (h : i < code_limit) (e : digit_of d ≡ place_of s i) (q : d ≡ Some v) where
   has_value : place_of s i ≡ some v
   has_value = sym e ∙ ap digit_of q
 
@@ -102,17 +103,23 @@ module _ {s : List ℕ} {sum i v : ℕ} {d : Digit}
 -- ---- the answer
 
 -- What the ways out of the loop and before it answer.
-module _ (s : List ℕ) {r : Coded} where
-  pub keyed_bad : Bad s → Refusal r → Keyed (read_part s) r
-  keyed_bad b e = rw (read_bad s b) (record { code = e.code; key = e.key })
+module _ (s : List ℕ) where
+  pub keyed_bad : Bad s → Keyed (read_part s) (Err BadCode)
+  keyed_bad b = rw (read_bad s b) (record { code = refl; key = refl })
 
-  pub keyed_stray : (i : ℕ) {d : Digit} → digit_of d ≡ place_of s i → d ≡ Refused → Refusal r → Keyed (read_part s) r
+  -- too short or too long
+  pub keyed_length : {empty : Bool} → empty ≡ eqb (length s) 0 →
+      (empty ≡ true) ⊎ ((empty ≡ false) × (code_limit < length s)) → Keyed (read_part s) (Err BadCode)
+  keyed_length e h = keyed_bad (⊎_elim (λ q. inl (eqb-true (length s) 0 (sym e ∙ q))) (λ q. inr (inl q.1)) h)
+
+  pub keyed_stray : (i : ℕ) {d : std.Option ℕ} → digit_of d ≡ place_of s i → d ≡ None →
+      Keyed (read_part s) (Err BadCode)
   keyed_stray i e q = keyed_bad (inr (inr (place_stray s i (sym e ∙ ap digit_of q))))
 
 -- After the last place the sum is the key.
 pub keyed_done :
     {s : List ℕ} {sum i : ℕ} → Sofar s sum i → code_limit ≤ i → (length s ≡ 0 → ⊥) → length s ≤ code_limit →
-    Keyed (read_part s) (record { code = Done; key = record { 0 = sum } })
+    Keyed (read_part s) (Ok (record { 0 = sum }))
 keyed_done {s} {sum} {i} p h f k =
     rw (read_good s (record { filled = omega arith; fits = k; spelled = λ j m. p.spelled j (omega arith) m }))
     (record { code = refl; key = rw at_end at p.is })
@@ -123,13 +130,16 @@ keyed_done {s} {sum} {i} p h f k =
 -- ---- the line
 
 -- A line is read as its trimmed part.
-module _ (l : List ℕ) {part : List ℕ} {r : Coded} (e : part ≡ trimmed l) (k : Keyed (read_part part) r) where
+module _
+    (l : List ℕ) {part : List ℕ} {r : Result Key Refusal} (e : part ≡ trimmed l) (k : Keyed (read_part part) r) where
   pub keyed_line : Keyed (read_line l) r
   unfolding read_line
   keyed_line = rw e at k
 
-  pub part_done : code_of r.code ≡ done → part ≡ (read_line l).part
-  part_done q = e ∙ sym (ap (λ (x : Reading). x.part) (good_reading_lem l (sym keyed_line.code ∙ q)))
+  pub part_done : (q : Key) → r ≡ Ok q → part ≡ (read_line l).part
+  part_done q f =
+      e ∙ sym (ap (λ (x : Reading). x.part) (good_reading_lem l (sym keyed_line.code ∙ ap code_of f)))
 
-  pub part_refused : (code_of r.code ≡ done → ⊥) → [] ≡ (read_line l).part
-  part_refused f = sym (ap (λ (x : Reading). x.part) (bad_reading_lem l (λ q. f (keyed_line.code ∙ q))))
+  pub part_refused : (q : Refusal) → r ≡ Err q → [] ≡ (read_line l).part
+  part_refused q f =
+      sym (ap (λ (x : Reading). x.part) (bad_reading_lem l (λ d. refused q (sym (ap code_of f) ∙ keyed_line.code ∙ d))))

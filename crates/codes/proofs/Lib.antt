@@ -1,3 +1,4 @@
 pub mod Cutting
 pub mod Keys
 pub mod Only
+pub mod Told

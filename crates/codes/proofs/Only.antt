@@ -5,23 +5,18 @@ use mathlib.Core.List.{List}
 use native.Mathlib.Omega.{arith}
 use lib.ListN.{length, drop, length-drop}
 use Rattle.model.specs.Codes.{trimmed, read_line}
-use Rattle.links.specs.declared.types.Code.{Code}
-use Rattle.links.proofs.Answers.{code_one}
-use Rattle.codes.specs.declared.types.Coded.{Coded}
+use Rattle.std.specs.Prelude.{Result}
+use Rattle.links.specs.declared.types.Key.{Key}
+use Rattle.links.specs.declared.types.Refusal.{Refusal}
 use Rattle.codes.specs.Reading.{Keyed, Start}
-
--- the answer of a code and a key
-abbrev coded : Code → ℕ → Coded
-coded c k = record { code = c; key = record { 0 = k } }
+use Rattle.codes.proofs.Told.{answer_one}
 
 module _ (line : List ℕ) where
   pub trim_one : (a b : List ℕ) → a ≡ trimmed line → b ≡ trimmed line → a ≡ b
   trim_one a b p q = p ∙ sym q
 
-  pub code_key_one : (a b : Coded) → Keyed (read_line line) a → Keyed (read_line line) b → a ≡ b
-  code_key_one a b p q =
-      ap (λ (c : Code). coded c a.key.0) (code_one a.code b.code (p.code ∙ sym q.code))
-      ∙ ap (coded b.code) (p.key ∙ sym q.key)
+  pub code_key_one : (a b : Result Key Refusal) → Keyed (read_line line) a → Keyed (read_line line) b → a ≡ b
+  code_key_one a b p q = answer_one a b (p.code ∙ sym q.code) (p.key ∙ sym q.key)
 
   pub code_part_one : (a b : List ℕ) → a ≡ (read_line line).part → b ≡ (read_line line).part → a ≡ b
   code_part_one a b p q = p ∙ sym q

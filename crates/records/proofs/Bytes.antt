@@ -1,35 +1,18 @@
--- Laws of bytes in a list: a number is joined from two parts, a field of a part is a field of the whole, and values
--- laid right past a run leave the run. Assumes nothing.
-use Prim.Native.Nat.{ℕ, zero, suc, ◌+◌, ◌*◌, ◌^◌, ◌≤◌, ◌<◌}
+-- Laws of bytes in a list: a field of one byte is that byte, a field of a part is a field of the whole, and values laid
+-- right past a run leave the run. Assumes nothing.
+use Prim.Native.Nat.{ℕ, zero, suc, ◌+◌, ◌≤◌, ◌<◌}
 use mathlib.Core.Path.{◌≡◌, refl}
 use mathlib.Core.List.{List, [], ◌∷◌, ◌++◌}
-use native.Mathlib.Nat.{mul_assoc, pow-succ'}
 use native.Mathlib.Omega.{arith}
-use lib.ListN.{length, get_or, take, drop, length-drop}
-use lib.Seq.{length-take-le, drop-cons, take-add, take-take, drop-drop, take-append_seam, drop-append-add}
-use Rattle.model.specs.Batch.{number, field}
+use lib.ListN.{length, get_or, take, drop}
+use lib.Seq.{drop-cons, take-take, drop-drop, take-append_seam, drop-append-add}
+use Rattle.model.specs.Batch.{field}
 use Rattle.records.specs.Records.{laid}
 
--- The number of two runs of bytes: the second counts from where the first ends.
-pub number_append : (low high : List ℕ) → number (low ++ high) ≡ number low + 256 ^ length low * number high
-number_append [] high = omega arith
-number_append (b ∷ low) high = rw (number_append low high, pow-succ', mul_assoc) (omega arith)
-
-module _ (at : ℕ) (bytes : List ℕ) where
-  -- A field of one byte is that byte.
-  pub field_one : at < length bytes → field at 1 bytes ≡ get_or bytes at 0
-  unfolding field
-  field_one inside = rw (drop-cons bytes at 0) (omega arith)
-
-  -- A field is its low part and, past that, its high part.
-  pub field_add :
-      (low high : ℕ) →
-      at + low ≤ length bytes →
-      field at (low + high) bytes ≡ field at low bytes + 256 ^ low * field (at + low) high bytes
-  unfolding field
-  field_add low high inside =
-      let held : low ≤ length (drop at bytes) = simp length-drop (omega arith) in
-      rw (take-add, number_append, length-take-le, drop-drop)
+-- A field of one byte is that byte.
+pub field_one : (at : ℕ) (bytes : List ℕ) → at < length bytes → field at 1 bytes ≡ get_or bytes at 0
+unfolding field
+field_one at bytes inside = rw (drop-cons bytes at 0) (omega arith)
 
 -- A part within the first `size` elements is the same part of the whole.
 pub part_within :

@@ -3,14 +3,13 @@
 
 pub mod types;
 
-ghost use Rattle.std.specs.Prelude.{◌≡◌, [], ◌∷◌, ◌+◌, ◌≤◌, length};
-ghost use Rattle.model.specs.Answers.{code_number};
+ghost use Rattle.std.specs.Prelude.{◌≡◌, ◌+◌, ◌≤◌, length, take, drop};
 ghost use Rattle.model.specs.Batch.{answer_bytes};
 ghost use Rattle.model.specs.Limits.{record_size, answer_size};
-ghost use Rattle.links.specs.Answers.{code_of, told};
-ghost use Rattle.records.specs.Records.{ReadsField, ReadsRecord, Lays};
+ghost use Rattle.links.specs.Outcomes.{told};
+ghost use Rattle.records.specs.Records.{ReadsRecord, Lays, answer_in};
 
-use links::types::{Answer, Code, Key, Slot};
+use links::types::{Answer, Key, Slot};
 use types::Record;
 
 // The bytes of a command record.
@@ -20,64 +19,17 @@ pub const ANSWER: usize = 6;
 // The most bytes of a batch.
 pub const LONGEST: usize = 16384;
 // The mark of a command record, 43 4E.
-pub const MARK: u32 = 0x4E43;
+pub const MARK: u16 = 0x4E43;
 
-// The number of a code.
-pub fn number_of(code: Code) -> u8
-    ensures { result ≡ code_number (code_of code) }
+// As many bytes from a place on as the array holds.
+fn bytes_at<const N: usize>(bytes: &[u8], at: usize) -> [u8; N]
+    requires { at + N ≤ length bytes.now }
+    ensures { result ≡ take N (drop at bytes.now) }
 {
-    match code {
-        Code::Done => 0,
-        Code::Damaged => 1,
-        Code::BadSlot => 2,
-        Code::AlreadyLinked => 3,
-        Code::NotLinked => 4,
-        Code::OutOfOrder => 5,
-        Code::NullCursor => 6,
-        Code::Stale => 7,
-        Code::BadRecord => 8,
-        Code::BadLength => 9,
-        Code::Short => 10,
-        Code::BadCode => 11,
-    }
-}
-
-// The number of one byte.
-pub fn byte(bytes: &[u8], at: usize) -> u32
-    requires { at + 1 ≤ length bytes.now }
-    ensures { ReadsField at 1 bytes.now result }
-{
-    bytes[at] as u32
-}
-
-// The number of two bytes.
-pub fn half(bytes: &[u8], at: usize) -> u32
-    requires { at + 2 ≤ length bytes.now }
-    ensures { ReadsField at 2 bytes.now result }
-{
-    let low = byte(bytes, at);
-    let high = byte(bytes, at + 1);
-    low + 256 * high
-}
-
-// The number of four bytes.
-pub fn word(bytes: &[u8], at: usize) -> u32
-    requires { at + 4 ≤ length bytes.now }
-    ensures { ReadsField at 4 bytes.now result }
-{
-    let low = half(bytes, at);
-    let high = half(bytes, at + 2);
-    low + 65536 * high
-}
-
-// The number of eight bytes.
-pub fn long(bytes: &[u8], at: usize) -> u64
-    requires { at + 8 ≤ length bytes.now }
-    ensures { ReadsField at 8 bytes.now result }
-{
-    let low = word(bytes, at) as u64;
-    let high = word(bytes, at + 4) as u64;
-    low + 4294967296 * high
+    let Some(part) = bytes[at..].first_chunk() else {
+        unreachable!()
+    };
+    *part
 }
 
 // The command record that starts at a byte.
@@ -86,33 +38,31 @@ pub fn record_at(bytes: &[u8], at: usize) -> Record
     ensures { ReadsRecord at bytes.now result }
 {
     Record {
-        mark: half(bytes, at),
-        operation: byte(bytes, at + 2),
-        kind: byte(bytes, at + 3),
-        position: Slot(half(bytes, at + 4)),
-        slot: Slot(half(bytes, at + 6)),
-        key: Key(long(bytes, at + 8)),
+        mark: u16::from_le_bytes(bytes_at(bytes, at)),
+        operation: bytes[at + 2],
+        kind: bytes[at + 3],
+        position: Slot(u32::from(u16::from_le_bytes(bytes_at(bytes, at + 4)))),
+        slot: Slot(u32::from(u16::from_le_bytes(bytes_at(bytes, at + 6)))),
+        key: Key(u64::from_le_bytes(bytes_at(bytes, at + 8))),
     }
 }
 
-// Stores two bytes from a place on.
-pub fn put_pair(bytes: &mut [u8], at: usize, low: u8, high: u8)
-    requires { at + 2 ≤ length bytes.old }
-    ensures { Lays at 2 (low ∷ high ∷ []) bytes.old bytes.new }
+// Writes the bytes of an answer from a place on: its mark 41 4E, the code and the probes, the slot.
+fn put_bytes(bytes: &mut [u8], at: usize, code: u8, probes: u32, slot: Slot)
+    requires { at + answer_size ≤ length bytes.old }
+    ensures { Lays at answer_size (answer_in code probes slot.0) bytes.old bytes.new }
 {
-    bytes[at] = low;
-    bytes[at + 1] = high;
+    let [low, high] = ((slot.0 % 65536) as u16).to_le_bytes();
+    bytes[at..at + ANSWER].copy_from_slice(&[0x41, 0x4E, code, (probes % 256) as u8, low, high]);
 }
 
-// Writes an answer record from a place on: its mark 41 4E, the code and the probes, the slot.
+// Writes an answer record from a place on.
 pub fn put_answer(bytes: &mut [u8], at: usize, answer: Answer)
     requires { at + answer_size ≤ length bytes.old }
     ensures { Lays at answer_size (answer_bytes (told answer)) bytes.old bytes.new }
 {
-    let code = answer.code;
-    let slot = answer.slot;
-    let s = slot.0;
-    put_pair(bytes, at, 0x41, 0x4E);
-    put_pair(bytes, at + 2, number_of(code), (answer.probes % 256) as u8);
-    put_pair(bytes, at + 4, (s % 256) as u8, (s / 256 % 256) as u8);
+    match answer {
+        Ok(done) => put_bytes(bytes, at, 0, done.probes, done.slot),
+        Err(why) => put_bytes(bytes, at, u8::from(why), 0, Slot(0)),
+    }
 }

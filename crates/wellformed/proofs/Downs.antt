@@ -13,10 +13,9 @@ use Rattle.theory.specs.Quick.{blacks_down}
 use Rattle.wellformed.specs.Checks.{Descended}
 
 -- what has been counted and what is still to come make up the whole
-pub record Descending (l p : List ℕ) (root here blacks turns : ℕ) : Type 0 where
-  pub number : here < 4294967296
-  pub turned : blacks + turns ≤ depth_limit
-  pub all : blacks + blacks_down turns l p here ≡ blacks_down depth_limit l p root
+pub record Descending (l p : List ℕ) (root here blacks done : ℕ) : Type 0 where
+  pub turned : blacks ≤ done
+  pub all : blacks + blacks_down (depth_limit - done) l p here ≡ blacks_down depth_limit l p root
 
 -- where there is no slot, where there is no turn left, and one turn
 no_slot : (l p : List ℕ) (turns s : ℕ) → (ltb 0 s && leb s (length p)) ≡ false → blacks_down turns l p s ≡ 0
@@ -37,27 +36,29 @@ one_turn l p (suc turns) s some low high =
     let q : suc turns - 1 ≡ turns = omega arith in
     rw (lt-ltb 0 s low, le-leb s (length p) high, q)
 
-pub down_start : (l p : List ℕ) (root : ℕ) → root < 4294967296 → Descending l p root root 0 depth_limit
-down_start l p root number = record { number = number; turned = omega arith; all = omega arith }
+module _ {l p : List ℕ} {root here blacks done : ℕ} (h : Descending l p root here blacks done) where
+  pub down_step : {i : ℕ} → done < depth_limit → (here ≡ 0 → ⊥) → i ≡ here - 1 → i < length p →
+      Descending l p root (get_or l i 0) (blacks + get_or p i 0 % 2) (done + 1)
+  down_step some low is high =
+      let q : depth_limit - (done + 1) ≡ depth_limit - done - 1 = omega arith in
+      rw is (record {
+        turned = omega (arith, h.turned);
+        all = rw q (omega
+            (arith, h.all, one_turn l p (depth_limit - done) here (omega arith) (omega arith) (omega arith)));
+      })
 
-module _ {l p : List ℕ} {root here blacks turns : ℕ} (h : Descending l p root here blacks turns) where
-  pub down_step : 0 < turns → (here ≡ 0 → ⊥) → here - 1 < length p → get_or l (here - 1) 0 < 4294967296 →
-      Descending l p root (get_or l (here - 1) 0) (blacks + get_or p (here - 1) 0 % 2) (turns - 1)
-  down_step some low high number = record {
-    number = number;
-    turned = omega (arith, h.turned);
-    all = omega (arith, h.all, one_turn l p turns here some (omega arith) (omega arith));
-  }
+  stopped : done ≤ depth_limit → blacks_down (depth_limit - done) l p here ≡ 0 → Descended l p root blacks
+  stopped few e = record { is = omega (arith, h.all); small = omega (arith, h.turned) }
 
-  stopped : blacks_down turns l p here ≡ 0 → Descended l p root blacks
-  stopped e = record { is = omega (arith, h.all); small = omega (arith, h.turned) }
+  pub down_spent : done ≤ depth_limit → depth_limit ≤ done → Descended l p root blacks
+  down_spent few e = stopped few (no_turn l p (depth_limit - done) here (omega arith))
 
-  pub down_spent : turns ≤ 0 → Descended l p root blacks
-  down_spent e = stopped (no_turn l p turns here e)
+  pub down_none : done < depth_limit → here ≡ 0 → Descended l p root blacks
+  down_none few e =
+      stopped (omega arith) (no_slot l p (depth_limit - done) here (rw (le-ltb 0 here (omega arith))))
 
-  pub down_none : here ≡ 0 → Descended l p root blacks
-  down_none e = stopped (no_slot l p turns here (rw (le-ltb 0 here (omega arith))))
-
-  pub down_past : (here ≡ 0 → ⊥) → length p ≤ here - 1 → Descended l p root blacks
-  down_past some e =
-      stopped (no_slot l p turns here (rw (lt-leb here (length p) (omega arith)) (and-false (ltb 0 here))))
+  pub down_past : {i : ℕ} → done < depth_limit → (here ≡ 0 → ⊥) → i ≡ here - 1 → length p ≤ i →
+      Descended l p root blacks
+  down_past few some is past =
+      stopped (omega arith) (no_slot l p (depth_limit - done) here
+      (rw (lt-leb here (length p) (omega arith)) (and-false (ltb 0 here))))

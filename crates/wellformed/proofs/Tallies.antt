@@ -2,16 +2,17 @@
 use Prim.Native.Nat.{ℕ, suc, ◌+◌, ◌≤◌, ◌<◌}
 use native.Mathlib.Omega.{arith}
 use native.Mathlib.Numerals.{add-one}
-use mathlib.Core.Bool.{Bool, true, false, not}
+use mathlib.Core.Bool.{Bool, true, false, not, ◌&&◌, ◌||◌}
 use mathlib.Core.List.{List, [], ◌∷◌}
 use mathlib.Core.Path.{◌≡◌, refl}
 use lib.Dec.{eqb}
 use lib.ListN.{length, get_or, drop, drop_of_length-le}
 use lib.Seq.{drop-cons}
+use Rattle.std.specs.Int.{from_bool}
 use Rattle.model.specs.Branch.{choose, pick}
 use Rattle.model.specs.Check.{tidy_slot, linked_count}
 use Rattle.theory.specs.Quick.{stray_count}
-use Rattle.wellformed.specs.Checks.{One, SameLengths, stray}
+use Rattle.wellformed.specs.Checks.{SameLengths, stray}
 
 -- what has been counted and what is still to come make up the whole
 pub record Tallying (l r p : List ℕ) (linked strays i : ℕ) : Type 0 where
@@ -25,28 +26,44 @@ pub tally_start : (l r p : List ℕ) → Tallying l r p 0 0 0
 tally_start l r p = record
     { within = omega arith; few = omega arith; few_strays = omega arith; all = omega arith; all_strays = omega arith }
 
-one_linked : (x : ℕ) (p : List ℕ) → linked_count (x ∷ p) ≡ pick (not (eqb x 0)) 1 0 + linked_count p
+one_linked : (x : ℕ) (p : List ℕ) → linked_count (x ∷ p) ≡ from_bool (not (eqb x 0)) + linked_count p
 unfolding linked_count
 one_linked x p = go (eqb x 0)
   where
-    go : (t : Bool) → choose t (λ _. linked_count p) (λ _. suc (linked_count p)) ≡ pick (not t) 1 0 + linked_count p
+    go : (t : Bool) → choose t (λ _. linked_count p) (λ _. suc (linked_count p)) ≡ from_bool (not t) + linked_count p
     go true = omega arith
     go false = omega arith
 
 one_stray : (x y z : ℕ) (l r p : List ℕ) →
-    stray_count (x ∷ l) (y ∷ r) (z ∷ p) ≡ pick (stray x y z) 1 0 + stray_count l r p
+    stray_count (x ∷ l) (y ∷ r) (z ∷ p) ≡ from_bool (stray x y z) + stray_count l r p
 unfolding stray_count
 one_stray x y z l r p = go (tidy_slot x y z)
   where
-    go : (t : Bool) → pick t 0 1 + stray_count l r p ≡ pick (not t) 1 0 + stray_count l r p
+    go : (t : Bool) → pick t 0 1 + stray_count l r p ≡ from_bool (not t) + stray_count l r p
     go true = refl
     go false = refl
 
-module _ {l r p : List ℕ} {linked strays i : ℕ} (same : SameLengths l r p) (h : Tallying l r p linked strays i) where
-  pub tally_step : {one two : ℕ} {bad : Bool} → i < length p → One (not (eqb (get_or p i 0) 0)) one →
-      bad ≡ stray (get_or l i 0) (get_or r i 0) (get_or p i 0) → One bad two →
+at_most_one : (t : Bool) → from_bool t ≤ 1
+at_most_one true = omega arith
+at_most_one false = omega arith
+
+-- is_stray
+pub stray_both : (l r p : ℕ) → (eqb p 0 && (not (eqb l 0) || not (eqb r 0))) ≡ stray l r p
+unfolding tidy_slot
+stray_both l r p = go (eqb p 0) (eqb l 0)
+  where
+    go : (free none : Bool) →
+        (free && (not none || not (eqb r 0))) ≡ not (choose free (λ _. none && eqb r 0) (λ _. true))
+    go true true = refl
+    go true false = refl
+    go false none = refl
+
+module _
+    {l r p k : List ℕ} {linked strays i : ℕ} (same : SameLengths l r p k) (h : Tallying l r p linked strays i) where
+  pub tally_step : {one two : ℕ} {bad : Bool} → i < length p → one ≡ from_bool (not (eqb (get_or p i 0) 0)) →
+      bad ≡ stray (get_or l i 0) (get_or r i 0) (get_or p i 0) → two ≡ from_bool bad →
       Tallying l r p (linked + one) (strays + two) (i + 1)
-  tally_step more e b f =
+  tally_step {bad = bad} more e b f =
       let pc : drop i p ≡ get_or p i 0 ∷ drop (suc i) p = drop-cons p i 0 more in
       let left : drop i l ≡ get_or l i 0 ∷ drop (suc i) l = drop-cons l i 0 (omega (arith, same.left)) in
       let right : drop i r ≡ get_or r i 0 ∷ drop (suc i) r = drop-cons r i 0 (omega (arith, same.right)) in
@@ -55,12 +72,12 @@ module _ {l r p : List ℕ} {linked strays i : ℕ} (same : SameLengths l r p) (
       let here = one_stray (get_or l i 0) (get_or r i 0) (get_or p i 0) in
       record {
         within = omega arith;
-        few = omega (arith, h.few, e.small);
-        few_strays = omega (arith, h.few_strays, f.small);
-        all = rw (add-one i) (omega (arith, e.is, one_linked (get_or p i 0) (drop (suc i) p)));
+        few = omega (arith, h.few, e, at_most_one (not (eqb (get_or p i 0) 0)));
+        few_strays = omega (arith, h.few_strays, f, at_most_one bad);
+        all = rw (add-one i) (omega (arith, e, one_linked (get_or p i 0) (drop (suc i) p)));
         all_strays =
             rw (add-one i)
-            (omega (arith, rw b at f.is, here (drop (suc i) l) (drop (suc i) r) (drop (suc i) p)));
+            (omega (arith, rw b at f, here (drop (suc i) l) (drop (suc i) r) (drop (suc i) p)));
       }
 
   pub tally_linked : length p ≤ i → linked ≡ linked_count p

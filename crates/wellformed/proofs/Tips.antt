@@ -12,7 +12,7 @@ use Rattle.model.specs.Branch.{pick}
 use Rattle.model.specs.Lent.{Arrays, arrays_of, capacity}
 use Rattle.theory.specs.Quick.{is_tip, tip_ends}
 use Rattle.theory.proofs.QuickBounds.{tip_small}
-use Rattle.wellformed.specs.Checks.{Ready, TipPre}
+use Rattle.wellformed.specs.Checks.{Ready}
 
 module _ {l r p k : List ℕ} {above at : ℕ} (s : ℕ) (h : Ready l r p k above) (e : at ≡ pick (eqb s 0) above s) where
   -- which slot is looked at
@@ -28,19 +28,6 @@ module _ {l r p k : List ℕ} {above at : ℕ} (s : ℕ) (h : Ready l r p k abov
   tip_past low high past =
       at_cases (λ q f. absurd (omega (arith, h.top)))
       (λ q f. rw (ne_eqb s 0 q, lt-ltb (length p) s (omega arith)))
-
-  pub tip_ready : at ≤ length p → TipPre l r p k above at
-  tip_ready fits = record {
-    ready = record {
-      left = h.left;
-      right = h.right;
-      key = h.key;
-      small = h.small;
-      top = fits;
-      pos = at_cases (λ q f. omega (arith, h.pos)) (λ q f. omega arith);
-    };
-    above = omega (arith, h.top, h.small);
-  }
 
   pub tip_count : (low high : ℕ) {count : ℕ} {good : Bool} → at ≤ length p →
       good ≡ is_tip (arrays_of l r p k) above at low high →

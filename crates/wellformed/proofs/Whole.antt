@@ -5,8 +5,9 @@ use mathlib.Core.Bool.{Bool, true, false}
 use mathlib.Core.List.{List}
 use mathlib.Core.Path.{◌≡◌, sym, ◌∙◌}
 use lib.Dec.{eqb, leb}
-use lib.ListN.{length, get_or}
+use lib.ListN.{length}
 use borrow.Author.Tests.{eq-eqb, ne_eqb, le-leb, lt-leb, leb-true}
+use Rattle.std.specs.Prelude.{Some, None}
 use Rattle.model.specs.Branch.{pick, both}
 use Rattle.model.specs.Limits.{depth_limit}
 use Rattle.model.specs.Lent.{arrays_of, lent, at, capacity, key_of}
@@ -15,11 +16,9 @@ use Rattle.theory.specs.Quick.{black_ends, root_ends, tree_ends, fits, quick_che
 use Rattle.theory.proofs.Verdicts.{both_true}
 use Rattle.theory.proofs.Check.{fit_lengths}
 use Rattle.theory.proofs.QuickCheck.{quick_is}
-use Rattle.wellformed.specs.Checks.{highest, Kinship, Descended, SameLengths, Tallied, Rooted}
-use Rattle.wellformed.specs.declared.types.Kin.{Kin}
-use Rattle.wellformed.specs.declared.types.Kin.TheVariants.{Black}
+use Rattle.wellformed.specs.Checks.{highest, Low, Kin, Kinship, Descended, SameLengths, Tallied, Rooted}
+use Rattle.links.specs.declared.types.Color.TheVariants.{Red, Black}
 use Rattle.wellformed.specs.declared.types.Tally.{Tally}
-use Rattle.wellformed.proofs.Children.{not_black}
 
 -- ---- tree_check
 
@@ -29,11 +28,15 @@ module _ (l r p k : List ℕ) (root : ℕ) where
   tree_none e = rw (eq-eqb root 0 e)
 
   module _ {kin : Kin} (some : root ≡ 0 → ⊥) (kind : Kinship kin p 0 root) where
-    pub tree_other : (kin ≡ Black → ⊥) → 0 ≡ tree_ends highest (lent l r p k root)
+    pub tree_red : kin ≡ Some Red → 0 ≡ tree_ends highest (lent l r p k root)
     unfolding tree_ends
-    tree_other other = rw (ne_eqb root 0 some, kind.black, not_black kin other)
+    tree_red e = rw (ne_eqb root 0 some, kind.black, e)
 
-    module _ {blacks : ℕ} (e : kin ≡ Black) (down : Descended l p root blacks) where
+    pub tree_stray : kin ≡ None → 0 ≡ tree_ends highest (lent l r p k root)
+    unfolding tree_ends
+    tree_stray e = rw (ne_eqb root 0 some, kind.black, e)
+
+    module _ {blacks : ℕ} (e : kin ≡ Some Black) (down : Descended l p root blacks) where
       tree_down : tree_ends highest (lent l r p k root)
           ≡ pick (leb (2 * blacks) depth_limit) (black_ends (blacks - 1) (arrays_of l r p k) root 0 highest) 0
       unfolding tree_ends root_ends
@@ -60,19 +63,19 @@ module _ (l r p k : List ℕ) (root : ℕ) {fit : Bool} (e : fit ≡ fits (lent 
       record
       { left = h.left; right = h.right; key = h.key; small = h.small; within = leb-true root (length p) within }
 
-  pub fit_same : fit ≡ true → SameLengths l r p
+  pub fit_same : fit ≡ true → SameLengths l r p k
   fit_same n = let h = fit_rooted n in record { left = h.left; right = h.right; small = h.small }
 
-  module _ (wide : (i : ℕ) → get_or k i 0 < 18446744073709551616) where
+  module _ (low : Low k) where
     quick : quick_check highest (lent l r p k root) ≡ check (lent l r p k root)
     unfolding key_of at
-    quick = quick_is highest (lent l r p k root) (λ s. omega (arith, wide (s - 1)))
+    quick = quick_is highest (lent l r p k root) (λ s. low (s - 1))
 
     pub check_unfit : fit ≡ false → false ≡ check (lent l r p k root)
     unfolding quick_check both
     check_unfit n = rw (← quick, ← e, n)
 
-    module _ {tally : Tally} (n : fit ≡ true) (t : Tallied l r p tally) where
+    module _ {tally : Tally} (n : fit ≡ true) (t : Tallied l r p k tally) where
       pub check_stray : (tally.strays ≡ 0 → ⊥) → false ≡ check (lent l r p k root)
       unfolding quick_check both
       check_stray some = rw (← quick, ← e, n, ← t.strays, ne_eqb tally.strays 0 some)

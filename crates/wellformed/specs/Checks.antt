@@ -1,14 +1,16 @@
 -- What the functions of the check require, and what they tell.
-use Rattle.std.specs.Prelude.{ℕ, ◌%◌, ◌≤◌, ◌<◌, Bool, true, false, not, ◌&&◌, List, ◌≡◌, eqb, length}
-use Rattle.model.specs.Branch.{pick}
+use Rattle.std.specs.Prelude.{ℕ, ◌%◌, ◌≤◌, ◌<◌, Bool, true, false, not, List, ◌≡◌, eqb, get_or, length}
+use Rattle.std.specs.Prelude.{Option, Some, None}
 use Rattle.model.specs.Limits.{capacity_limit, depth_limit}
 use Rattle.model.specs.Tree.{red, black}
 use Rattle.model.specs.Lent.{at}
 use Rattle.model.specs.Check.{tidy_slot, linked_count}
-use Rattle.theory.specs.Quick.{is_child, is_node, blacks_down, stray_count}
+use Rattle.theory.specs.Quick.{is_child, is_node, blacks_down, stray_count, fits}
+use Rattle.links.specs.Bundles.{viewed}
 use Rattle.links.specs.Reads.{SlotOf}
-use Rattle.wellformed.specs.declared.types.Kin.{Kin}
-use Rattle.wellformed.specs.declared.types.Kin.TheVariants.{Red, Black, Other}
+use Rattle.links.specs.declared.types.Color as code
+use Rattle.links.specs.declared.types.Color.TheVariants.{Red, Black}
+use Rattle.links.specs.declared.types.View.{View}
 use Rattle.wellformed.specs.declared.types.Node.{Node}
 use Rattle.wellformed.specs.declared.types.Tally.{Tally}
 
@@ -18,28 +20,32 @@ highest = 18446744073709551615
 
 -- ---- one slot
 
+-- a child of a colour, or none
+abbrev pub Kin : Type 0
+Kin = Option code.Color
+
 abbrev pub is_red : Kin → Bool
-is_red Red = true
-is_red Black = false
-is_red Other = false
+is_red (Some Red) = true
+is_red (Some Black) = false
+is_red None = false
 
 abbrev pub is_black : Kin → Bool
-is_black Red = false
-is_black Black = true
-is_black Other = false
+is_black (Some Red) = false
+is_black (Some Black) = true
+is_black None = false
 
 -- what the child number s of p names
 pub record Kinship (kin : Kin) (pc : List ℕ) (p s : ℕ) : Type 0 where
   pub red : is_child red pc p s ≡ is_red kin
   pub black : is_child black pc p s ≡ is_black kin
 
-pub record NodePre (l r k : List ℕ) (s : ℕ) : Type 0 where
+pub record NodePre (l r p k : List ℕ) (s : ℕ) : Type 0 where
   pub left : SlotOf l s
   pub right : SlotOf r s
   pub key : SlotOf k s
 
 -- what a slot holds, and whether it passes
-pub record NodeAt (l r k : List ℕ) (s low high : ℕ) (node : Node) : Type 0 where
+pub record NodeAt (l r p k : List ℕ) (s low high : ℕ) (node : Node) : Type 0 where
   pub left : node.left.0 ≡ at l s
   pub right : node.right.0 ≡ at r s
   pub key : node.key.0 ≡ at k s
@@ -71,6 +77,11 @@ pub record BlackPre (l r p k : List ℕ) (depth s : ℕ) : Type 0 where
   pub deep : depth ≤ depth_limit
   pub even : depth % 2 ≡ 0
 
+-- a black slot that isn't the last one of a way
+pub record DeepPre (l r p k : List ℕ) (depth s : ℕ) : Type 0 where
+  pub pre : BlackPre l r p k depth s
+  pub deep : 2 < depth
+
 -- the black nodes on the leftmost way
 pub record Descended (l p : List ℕ) (root blacks : ℕ) : Type 0 where
   pub is : blacks ≡ blacks_down depth_limit l p root
@@ -78,29 +89,33 @@ pub record Descended (l p : List ℕ) (root blacks : ℕ) : Type 0 where
 
 -- ---- all slots
 
--- 1 for yes
-pub record One (yes : Bool) (n : ℕ) : Type 0 where
-  pub is : n ≡ pick yes 1 0
-  pub small : n ≤ 1
-
 -- a slot breaks W2
 abbrev pub stray : (left right pc : ℕ) → Bool
 stray l r p = not (tidy_slot l r p)
 
-pub record SameLengths (l r p : List ℕ) : Type 0 where
+pub record SameLengths (l r p k : List ℕ) : Type 0 where
   pub left : length l ≡ length p
   pub right : length r ≡ length p
   pub small : length p ≤ capacity_limit
 
-pub record Tallied (l r p : List ℕ) (tally : Tally) : Type 0 where
+pub record Tallied (l r p k : List ℕ) (tally : Tally) : Type 0 where
   pub linked : tally.linked ≡ linked_count p
   pub strays : tally.strays ≡ stray_count l r p
   pub small : tally.linked ≤ capacity_limit
 
 -- ---- W1
 
-unfoldable pub same_lengths : (l r p k : List ℕ) → Bool
-same_lengths l r p k = eqb (length l) (length p) && (eqb (length r) (length p) && eqb (length k) (length p))
+-- each key is at most the highest
+abbrev pub Low : (k : List ℕ) → Type 0
+Low k = (i : ℕ) → get_or k i 0 ≤ highest
+
+pub record HasKeys (k : List ℕ) (slots : ℕ) (yes : Bool) : Type 0 where
+  pub is : yes ≡ eqb (length k) slots
+  pub low : Low k
+
+pub record Fits (v : View) (yes : Bool) : Type 0 where
+  pub is : yes ≡ fits (viewed v)
+  pub low : Low v.key.now
 
 pub record Rooted (l r p k : List ℕ) (root : ℕ) : Type 0 where
   pub left : length l ≡ length p

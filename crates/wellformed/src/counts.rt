@@ -1,69 +1,52 @@
 // What the check counts before it walks: the black nodes of one way, the linked slots, and the unlinked ones with a
 // child.
 ghost use Rattle.std.specs.Prelude.{◌≡◌, length};
-ghost use Rattle.wellformed.specs.Checks.{stray, Descended, One, SameLengths, Tallied};
+ghost use Rattle.wellformed.specs.Checks.{stray, Descended, SameLengths, Tallied};
+ghost use Rattle.wellformed.specs.Views.{Seen};
 
 use crate::types::Tally;
-use links::types::Slot;
+use links::types::{Slot, View};
 
 // The number of black nodes on the way from the root down the left links, as far as it goes.
-pub fn blacks_down(left: &[u32], pc: &[u32], root: Slot) -> u32
-    requires { length left.now ≡ length pc.now }
-    ensures { Descended left.now pc.now root.0 result }
+pub fn blacks_down(view: &View) -> u32
+    requires { length view.now.left.now ≡ length view.now.pc.now }
+    ensures { Descended view.now.left.now view.now.pc.now view.now.root.0 result }
 {
-    let mut here = root.0;
-    let mut blacks = 0u32;
-    let mut turns = links::DEPTH;
-    while 0 < turns {
-        if here == 0 {
+    let mut here = view.root;
+    let mut blacks = 0;
+    for _ in 0..links::DEPTH {
+        if here.0 == 0 {
             break;
         }
-        let at = here as usize - 1;
-        if pc.len() <= at {
+        let at = here.index();
+        if view.pc.len() <= at {
             break;
         }
-        blacks += pc[at] % 2;
-        here = left[at];
-        turns -= 1;
+        blacks += view.pc[at] % 2;
+        here = Slot(view.left[at]);
     }
     blacks
 }
 
-// 1 for yes.
-pub fn one_if(yes: bool) -> u32
-    ensures { One yes result }
-{
-    if yes { 1 } else { 0 }
-}
-
 // Whether an unlinked slot has a child.
-pub fn is_stray(mark: u32, a: u32, b: u32) -> bool
-    ensures { result ≡ stray a b mark }
+pub fn is_stray(mark: u32, left: u32, right: u32) -> bool
+    ensures { result ≡ stray left right mark }
 {
-    if mark != 0 {
-        return false;
-    }
-    if a != 0 {
-        return true;
-    }
-    b != 0
+    (mark == 0) & ((left != 0) | (right != 0))
 }
 
-// The number of linked slots, and of unlinked ones with a child.
-pub fn tally(left: &[u32], right: &[u32], pc: &[u32]) -> Tally
-    requires { SameLengths left.now right.now pc.now }
-    ensures { Tallied left.now right.now pc.now result }
+// The number of linked slots, and of unlinked ones with a child. By index, since three arrays are read at once, and
+// pairs of pairs from two zips are no plainer.
+pub fn tally(view: &View) -> Tally
+    requires { Seen SameLengths view.now }
+    ensures { Seen Tallied view.now result }
 {
-    let mut linked = 0u32;
-    let mut strays = 0u32;
-    let mut i = 0usize;
-    while i < pc.len() {
-        let mark = pc[i];
-        let a = left[i];
-        let b = right[i];
-        linked += one_if(mark != 0);
-        strays += one_if(is_stray(mark, a, b));
-        i += 1;
+    let mut linked = 0;
+    let mut strays = 0;
+    for i in 0..view.pc.len() {
+        let mark = view.pc[i];
+        linked += u32::from(mark != 0);
+        strays += u32::from(is_stray(mark, view.left[i], view.right[i]));
     }
     Tally { linked, strays }
 }

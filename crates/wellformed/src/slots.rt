@@ -4,31 +4,31 @@ ghost use Rattle.model.specs.Limits.{capacity_limit};
 ghost use Rattle.model.specs.Check.{differ as apart};
 ghost use Rattle.theory.specs.Quick.{is_between};
 ghost use Rattle.wellformed.specs.Checks.{Kinship, NodePre, NodeAt};
+ghost use Rattle.wellformed.specs.Views.{Seen};
 
-use crate::types::{Kin, Node};
-use links::types::{Key, Slot};
+use crate::types::Node;
+use links::types::{Color, Key, Slot, View};
 
-// What a child number of a slot names.
-pub fn kin_of(pc: &[u32], parent: Slot, slot: Slot) -> Kin
+// The colour of the child that a child number of a slot names, if it names one.
+pub fn kin_of(pc: &[u32], parent: Slot, slot: Slot) -> Option<Color>
     requires { parent.0 ≤ capacity_limit }
     ensures { Kinship result pc.now parent.0 slot.0 }
 {
-    let s = slot.0;
-    if s == 0 {
-        return Kin::Other;
+    if slot.0 == 0 {
+        return None;
     }
-    let at = s as usize - 1;
+    let at = slot.index();
     if pc.len() <= at {
-        return Kin::Other;
+        return None;
     }
     let mark = pc[at];
     if mark == 2 * parent.0 {
-        return Kin::Red;
+        return Some(Color::Red);
     }
     if mark == 2 * parent.0 + 1 {
-        Kin::Black
+        Some(Color::Black)
     } else {
-        Kin::Other
+        None
     }
 }
 
@@ -36,34 +36,30 @@ pub fn kin_of(pc: &[u32], parent: Slot, slot: Slot) -> Kin
 pub fn differ(a: Slot, b: Slot) -> bool
     ensures { result ≡ apart a.0 b.0 }
 {
-    if a.0 != b.0 {
-        return true;
-    }
-    a.0 == 0
+    (a != b) | (a == Slot(0))
 }
 
 // Whether a key is at least the one and at most the other.
 pub fn between(low: Key, k: Key, high: Key) -> bool
     ensures { result ≡ is_between low.0 k.0 high.0 }
 {
-    links::both(low.0 <= k.0, k.0 <= high.0)
+    (low <= k) & (k <= high)
 }
 
 // A slot's children and key, with what is right or wrong in them.
-pub fn node_at(left: &[u32], right: &[u32], key: &[u64], slot: Slot, low: Key, high: Key) -> Node
-    requires { NodePre left.now right.now key.now slot.0 }
-    ensures { NodeAt left.now right.now key.now
-        slot.0 low.0 high.0 result }
+pub fn node_at(view: &View, slot: Slot, low: Key, high: Key) -> Node
+    requires { Seen NodePre view.now slot.0 }
+    ensures { Seen NodeAt view.now slot.0 low.0 high.0 result }
 {
-    let a = Slot(links::number_at(left, slot));
-    let b = Slot(links::number_at(right, slot));
-    let k = links::key_of(key, slot);
-    let apart = differ(a, b);
-    let fits = between(low, k, high);
+    let left = Slot(links::number_at(view.left, slot));
+    let right = Slot(links::number_at(view.right, slot));
+    let key = links::key_of(view.key, slot);
+    let apart = differ(left, right);
+    let fits = between(low, key, high);
     Node {
-        good: links::both(apart, fits),
-        left: a,
-        right: b,
-        key: k,
+        good: apart & fits,
+        left,
+        right,
+        key,
     }
 }

@@ -17,11 +17,3 @@ pub struct Tally {
     pub linked: u32,
     pub strays: u32,
 }
-
-// What a child number of a slot names: a red or a black child of it, or neither.
-#[derive(Clone, Copy)]
-pub enum Kin {
-    Red,
-    Black,
-    Other,
-}

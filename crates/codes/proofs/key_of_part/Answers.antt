@@ -1,11 +1,10 @@
-use mathlib.Core.Logic.{inl, inr, ⊎_elim}
 use Rattle.std.proofs.Common.{rules}
-use Rattle.codes.proofs.Keys.{none_yet, one_more, sum_fits, product_fits}
-use Rattle.codes.proofs.Keys.{keyed_bad, keyed_stray, keyed_done}
+use Rattle.codes.proofs.Keys.{none_yet, one_more, sum_fits, product_fits, keyed_length, keyed_stray, keyed_done}
 use Rattle.codes.proofs.key_of_part.Goals as goal
 
-pub returns-then-part-eq0 : goal.returns-then-part-eq0
-returns-then-part-eq0 c = keyed_bad _ (⊎_elim inl (λ w. inr (inl w.1)) c.then-part-eq0.either) c.bad.ensures
+pub returns-then-is_empty : goal.returns-then-is_empty
+returns-then-is_empty c =
+    keyed_length _ c.is_empty.ensures c.then-is_empty.either
 
 pub loop-i-init : goal.loop-i-init
 loop-i-init c =

@@ -1,19 +1,17 @@
-use Rattle.std.proofs.Common.{rules}
-use Rattle.codes.proofs.Cutting.{none_passed, pass_space, start_here, start_past}
+use Rattle.std.proofs.Common.{eqb, ◌∙◌, ◌≡◌, rules, tests}
+use Rattle.std.proofs.lemmas.Iterator.{YieldsList-from_slice}
+use Rattle.std.proofs.lemmas.Iterator.Consumers.{count_from_yields_List}
+use Rattle.std.proofs.lemmas.Iterator.Search.{YieldsList-from_take_while}
+use Rattle.std.proofs.lemmas.List.Folds.{length-prefix_len}
+use Rattle.codes.proofs.Cutting.{spaces, start_is}
 use Rattle.codes.proofs.start_of.Goals as goal
-
-pub loop-a-init : goal.loop-a-init
-loop-a-init c =
-    none_passed _
-
-pub returns-then-line-a-ne-SPACE : goal.returns-then-line-a-ne-SPACE
-returns-then-line-a-ne-SPACE c =
-    search (rules, start_here)
-
-pub loop-a-preserved : goal.loop-a-preserved
-loop-a-preserved c =
-    search (rules, pass_space)
 
 pub returns : goal.returns
 returns c =
-    search (rules, start_past)
+    let s = c.args.line.now in
+    let counted : c.count.result ≡ spaces s =
+    count_from_yields_List c.take_while.result _ c.count.ensures.ran
+    (YieldsList-from_take_while _ (λ b. eqb b 32) (YieldsList-from_slice s cc) c.take_while.ensures.closure
+    c.take_while.ensures.done (λ x b q k. search (rules, tests)))
+    ∙ length-prefix_len (λ b. eqb b 32) s in
+    rw counted (start_is s)

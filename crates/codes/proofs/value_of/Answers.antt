@@ -6,15 +6,15 @@ use Rattle.codes.proofs.value_of.Goals as goal
 
 pub returns-in-48-to-57 : goal.returns-in-48-to-57
 returns-in-48-to-57 c =
-    sym (value_digit _ (omega arith))
+    rw c.from.ensures (sym (value_digit _ (omega arith)))
 
 pub returns-in-65-to-90 : goal.returns-in-65-to-90
 returns-in-65-to-90 c =
-    sym (value_upper _ (omega arith))
+    rw c.from-in-65-to-90.ensures (sym (value_upper _ (omega arith)))
 
 pub returns-in-97-to-122 : goal.returns-in-97-to-122
 returns-in-97-to-122 c =
-    sym (value_lower _ (omega arith))
+    rw c.from-in-97-to-122.ensures (sym (value_lower _ (omega arith)))
 
 pub returns-in_default : goal.returns-in_default
 returns-in_default c =

@@ -5,6 +5,5 @@ use Rattle.wellformed.proofs.is_red_end.Goals as goal
 pub returns : goal.returns
 unfolding pc_of child_of key_of
 returns c =
-    tip_good _ _ _ _ _ c.number_at-mark.ensures c.number_at-a.ensures c.number_at-b.ensures
-    c.key_of-k.ensures c.both-childless.ensures c.between-fits.ensures c.both.ensures
-    c.both-2.ensures
+    tip_good _ _ _ _ _ c.number_at-mark.ensures c.number_at-left.ensures c.number_at-right.ensures
+    c.key_of-key.ensures c.between.ensures

@@ -1,18 +1,8 @@
-use borrow.Author.Tests.{eq-eqb, ne_eqb}
-use Rattle.theory.specs.Quick.{sum_of}
+use Rattle.wellformed.proofs.Nodes.{sum_none, sum_some}
 use Rattle.wellformed.proofs.sum_of.Goals as goal
 
-pub returns-then-x-eq0 : goal.returns-then-x-eq0
-unfolding sum_of
-returns-then-x-eq0 c =
-    simp (eq-eqb _ _ c.if-x-eq0.true)
+pub returns-then-x-y : goal.returns-then-x-y
+returns-then-x-y c = sum_none _ _ c.if-x-y.true
 
-pub returns-then-y-eq0 : goal.returns-then-y-eq0
-unfolding sum_of
-returns-then-y-eq0 c =
-    simp (ne_eqb _ _ c.if-x-eq0.false, eq-eqb _ _ c.if-y-eq0.true)
-
-pub returns : goal.returns
-unfolding sum_of
-returns c =
-    simp (ne_eqb _ _ c.if-x-eq0.false, ne_eqb _ _ c.if-y-eq0.false)
+pub returns-else-x-y : goal.returns-else-x-y
+returns-else-x-y c = sum_some _ _ c.if-x-y.false

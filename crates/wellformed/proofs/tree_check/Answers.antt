@@ -1,20 +1,18 @@
-use Rattle.wellformed.proofs.Whole.{tree_none, tree_other, tree_deep, tree_counts}
+use Rattle.std.proofs.Common.{rules}
+use Rattle.wellformed.proofs.Whole.{tree_none, tree_red, tree_stray, tree_deep, tree_counts}
 use Rattle.wellformed.proofs.tree_check.Goals as goal
 
 pub returns-then-root-eq0 : goal.returns-then-root-eq0
-returns-then-root-eq0 c =
-    tree_none _ _ _ _ _ c.if-root-eq0.true
+returns-then-root-eq0 c = search (rules, tree_none)
 
 pub returns-in_default : goal.returns-in_default
-returns-in_default c =
-    tree_other _ _ _ _ _ c.if-root-eq0.false c.kin_of-kin.ensures c.in_default.not-Black
+returns-in_default c = search (rules, tree_red)
+
+pub returns-in_default-2 : goal.returns-in_default-2
+returns-in_default-2 c = search (rules, tree_stray)
 
 pub returns-then-blacks-gt-DEPTH : goal.returns-then-blacks-gt-DEPTH
-returns-then-blacks-gt-DEPTH c =
-    tree_deep _ _ _ _ _ c.if-root-eq0.false c.kin_of-kin.ensures c.in-Black.is
-    c.blacks_down-blacks.ensures c.if-blacks-gt-DEPTH.true
+returns-then-blacks-gt-DEPTH c = search (rules, tree_deep)
 
 pub returns : goal.returns
-returns c =
-    tree_counts _ _ _ _ _ c.if-root-eq0.false c.kin_of-kin.ensures c.in-Black.is
-    c.blacks_down-blacks.ensures c.if-blacks-gt-DEPTH.false c.black_check.ensures
+returns c = search (rules, tree_counts)

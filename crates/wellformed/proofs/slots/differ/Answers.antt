@@ -1,13 +1,5 @@
-use borrow.Author.Tests.{eq-eqb, ne_eqb}
-use Rattle.model.specs.Check.{differ}
+use Rattle.wellformed.proofs.Nodes.{differ_either}
 use Rattle.wellformed.proofs.slots.differ.Goals as goal
 
-pub returns-then-a-b : goal.returns-then-a-b
-unfolding differ
-returns-then-a-b c =
-    simp (ne_eqb _ _ c.if-a-b.true)
-
 pub returns : goal.returns
-unfolding differ
-returns c =
-    simp (eq-eqb _ _ c.if-a-b.false)
+returns c = search (differ_either, c.ne.ensures, c.eq.ensures)

@@ -2,8 +2,8 @@ use Rattle.std.proofs.Common.{rules}
 use Rattle.wellformed.proofs.Kins.{kin_none, kin_past, kin_red, kin_black, kin_other}
 use Rattle.wellformed.proofs.slots.kin_of.Goals as goal
 
-pub returns-then-s-eq0 : goal.returns-then-s-eq0
-returns-then-s-eq0 c =
+pub returns-then-slot-eq0 : goal.returns-then-slot-eq0
+returns-then-slot-eq0 c =
     search (rules, kin_none)
 
 pub returns-then-pc-at : goal.returns-then-pc-at
