@@ -1,6 +1,5 @@
 -- beside: the code finds the place next to a position where the model has it.
 use Prim.Native.Nat.{ℕ, ◌<◌}
-use mathlib.Core.Bool.{Bool, true, false, not}
 use mathlib.Core.List.{List, [], ◌∷◌, reverse, Memᴰ}
 use mathlib.Core.Logic.{◌⊎◌, inl, inr, ⊎_elim, ⊎_map}
 use mathlib.Core.Path.{◌≡◌, refl, sym, ◌∙◌}
@@ -29,32 +28,31 @@ use Rattle.theory.proofs.Holds.{well_holds}
 use Rattle.theory.proofs.HoldsDrawn.{holds_drawn}
 use Rattle.links.specs.Reads.{Got}
 use Rattle.descent.specs.declared.types.InsertCursor.{InsertCursor}
-use Rattle.descent.specs.Entries.{side_if, place_told}
+use Rattle.links.specs.Sides as sides
+use Rattle.links.specs.declared.types.Side as code
+use Rattle.descent.specs.Entries.{place_told}
 use Rattle.placing.specs.Positions.{Stands}
 use Rattle.placing.specs.Places.{At, beside_at, BesidePre, FoundBeside}
 use Rattle.placing.proofs.Positions.{slot_high}
 
 -- ---- beside: there is no position, it has no child on that side, or it has one
 
-opposite : (b : Bool) → side_if (not b) ≡ opp (side_if b)
-opposite true = refl
-opposite false = refl
-
 -- the place on a side of a slot
-abbrev place_on : ℕ → Bool → InsertCursor
-place_on s is_on_left = record { parent = record { 0 = s }; on_left = is_on_left }
+abbrev place_on : ℕ → code.Side → InsertCursor
+place_on s side = record { parent = record { 0 = s }; side = side }
 
-module _ {links : List ℕ} {p n : ℕ} {is_on_left : Bool} where
-  pub beside_front : p ≡ 0 → FoundBeside links p n is_on_left (place_on n is_on_left)
+module _ {links : List ℕ} {p n : ℕ} (side : code.Side) where
+  pub beside_front : p ≡ 0 → FoundBeside links p n (sides.side_of side) (place_on n side)
   unfolding beside_at
   beside_front e = record { is = rw (eq-eqb p 0 e) }
 
   module _ {child : ℕ} (some : p ≡ 0 → ⊥) (got : Got links p child) where
-    pub beside_lacking : child ≡ 0 → FoundBeside links p n is_on_left (place_on p (not is_on_left))
+    pub beside_lacking : {other : code.Side} → child ≡ 0 → sides.side_of other ≡ opp (sides.side_of side)
+        → FoundBeside links p n (sides.side_of side) (place_on p other)
     unfolding beside_at
-    beside_lacking e = record { is = rw (ne_eqb p 0 some, ← got.is, eq-eqb child 0 e, opposite is_on_left) }
+    beside_lacking e o = record { is = rw (ne_eqb p 0 some, ← got.is, eq-eqb child 0 e, o) }
 
-    pub beside_child : (child ≡ 0 → ⊥) → FoundBeside links p n is_on_left (place_on n is_on_left)
+    pub beside_child : (child ≡ 0 → ⊥) → FoundBeside links p n (sides.side_of side) (place_on n side)
     unfolding beside_at
     beside_child apart = record { is = rw (ne_eqb p 0 some, ← got.is, ne_eqb child 0 apart) }
 
@@ -100,7 +98,7 @@ at_beside : {C : ℕ} {place : InsertCursor} (d : Side) (s : ℕ) (t : Tree) →
 at_beside {place = place} d s t sound here e =
     let there = beside_there d s t sound here in
     let parent : place.parent.0 ≡ s = cc in
-    let side : side_if place.on_left ≡ d = cc in
+    let side : sides.side_of place.side ≡ d = cc in
     record {
       parent_is = parent ∙ sym there.0;
       side_is = λ low. side ∙ sym (there.1 (rw there.0 at low));

@@ -1,11 +1,11 @@
--- gap_after, gap_before, insert_in and may_stand keep their promises.
+-- gap, insert_in and may_stand keep their promises.
 use Prim.Native.Nat.{ℕ}
 use mathlib.Core.Bool.{Bool, true, false}
 use mathlib.Core.Path.{◌≡◌, ap, sym, ◌∙◌}
 use Rattle.model.specs.Tree.{Side, lft, rgt, opp, slots}
 use Rattle.model.specs.Lent.{Lent, at, key_of, tree_of}
 use Rattle.model.specs.Order.{next_in, prev_in}
-use Rattle.model.specs.Answers.{Answer, done, out_of_order}
+use Rattle.model.specs.Answers.{outcome, refused, done, out_of_order}
 use Rattle.theory.specs.Between.{between}
 use Rattle.theory.specs.Links.{links_of, children}
 use Rattle.theory.specs.Lists.{facing}
@@ -18,7 +18,7 @@ use Rattle.placing.specs.Places.{HungAt, beside_at, earlier_of, GapAt, InsertedI
 use Rattle.placing.proofs.Positions.{Stepped, step_found}
 use Rattle.placing.proofs.Besides.{beside_at_lem}
 
--- ---- gap_after (the side rgt) and gap_before
+-- ---- gap
 
 pub gap_found : (d : Side) {m : Lent} {p n : ℕ} {place : InsertCursor} → Stands m p
     → n ≡ next_in p (facing d (slots (tree_of m))) → place_told place ≡ beside_at (children d (links_of m)) p n (opp d)
@@ -43,15 +43,14 @@ fitting m g k test = sym (test ∙ between_keys m.arrays g.earlier.0 k g.later.0
 
 module _ {m : Lent} {g : Gap} {s k : ℕ} {fits : Bool} where
   -- the key is refused
-  pub in_refused : {r : Answer} → fits ≡ between (at m.arrays.key) g.earlier.0 k g.later.0 → fits ≡ false
-      → r ≡ record { code = out_of_order; probes = 0; slot = 0 } → InsertedIn m g s k (record { answer = r; after = m })
-  in_refused test f e = record { is = λ v. rw (fitting m g k test, f, e) }
+  pub in_refused : fits ≡ between (at m.arrays.key) g.earlier.0 k g.later.0 → fits ≡ false
+      → InsertedIn m g s k (refused out_of_order m)
+  in_refused test f = record { is = λ v. rw (fitting m g k test, f) }
 
   -- done
-  pub in_done : {m' : Lent} {r : Answer} → fits ≡ between (at m.arrays.key) g.earlier.0 k g.later.0
-      → fits ≡ true → HungAt m g.place s k m' → r ≡ record { code = done; probes = 0; slot = s }
-      → InsertedIn m g s k (record { answer = r; after = m' })
-  in_done test f hung e = record { is = λ v. rw (fitting m g k test, f, e, hung.is v) }
+  pub in_done : {m' : Lent} → fits ≡ between (at m.arrays.key) g.earlier.0 k g.later.0
+      → fits ≡ true → HungAt m g.place s k m' → InsertedIn m g s k (outcome done 0 s m')
+  in_done test f hung = record { is = λ v. rw (fitting m g k test, f, hung.is v) }
 
 -- ---- may_stand
 

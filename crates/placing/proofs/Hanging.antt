@@ -1,10 +1,8 @@
 -- hang_at: what its call asks for, and the promise.
 use Prim.Native.Nat.{ℕ}
-use mathlib.Core.Bool.{Bool, true, false}
 use mathlib.Core.List.{List}
-use mathlib.Core.Path.{◌≡◌, refl, ap, sym, ◌∙◌}
-use Rattle.model.specs.Branch.{pick}
-use Rattle.model.specs.Tree.{lft, rgt, Tree, Frame, above, side_of}
+use mathlib.Core.Path.{◌≡◌, ap, sym, ◌∙◌}
+use Rattle.model.specs.Tree.{Tree, Frame, above, side_of}
 use Rattle.model.specs.Lent.{Lent, lent, capacity, keyed}
 use Rattle.model.specs.Hanging.{hang}
 use Rattle.model.specs.Descent.{vacant}
@@ -17,7 +15,8 @@ use Rattle.theory.proofs.Reading.{draw_with}
 use Rattle.links.specs.Writes.{SetKey}
 use Rattle.hanging.specs.Inserts.{Vacant, Inserted}
 use Rattle.descent.specs.declared.types.InsertCursor.{InsertCursor}
-use Rattle.descent.specs.Entries.{side_if, place_told}
+use Rattle.links.specs.Sides as sides
+use Rattle.descent.specs.Entries.{place_told}
 use Rattle.placing.specs.Places.{At, HangPre, HungAt}
 use Rattle.placing.proofs.Positions.{free_count}
 
@@ -30,21 +29,17 @@ placed_lent m t {s} {k} e stored =
     rw stored.is
     (ap (with_keys (put m.arrays.key s k)) e ∙ sym (draw_with (capacity m.arrays) t (keyed s k m.arrays)))
 
-side_if_lem : (b : Bool) → side_if b ≡ pick b lft rgt
-side_if_lem true = refl
-side_if_lem false = refl
-
 -- what its call asks for
 pub hang_vacant : {m : Lent} {place : InsertCursor} {s : ℕ} → HangPre m place s
     → Vacant m.arrays.left m.arrays.right m.arrays.pc m.root place.parent.0
-    (pick place.on_left lft rgt) s
+    (sides.side_of place.side) s
 hang_vacant {m} {place} v =
     let h = well_holds m v.well in
     record {
       size = capacity m.arrays;
       way = v.way;
       over = sym v.there.parent_is;
-      side = λ low. sym (v.there.side_is (rw v.there.parent_is at low)) ∙ side_if_lem place.on_left;
+      side = λ low. sym (v.there.side_is (rw v.there.parent_is at low));
       held = rw v.whole (holds_drawn h);
       balanced = rw v.whole h.balanced;
       fresh = rw v.whole (free_count v.free);
@@ -55,7 +50,7 @@ hang_vacant {m} {place} v =
 -- the promise
 pub hung_at : {m : Lent} {place : InsertCursor} {s k : ℕ} {left' right' pc' key' : List ℕ} {root' : ℕ}
     → Inserted m.arrays.left m.arrays.right m.arrays.pc m.root place.parent.0
-    (pick place.on_left lft rgt) s left' right' pc' root'
+    (sides.side_of place.side) s left' right' pc' root'
     → SetKey m.arrays.key s k key' → HungAt m place s k (lent left' right' pc' key' root')
 unfolding hang_vacant
 hung_at {m} {s = s} hung stored =

@@ -15,10 +15,10 @@ use Rattle.theory.proofs.Lists.{count_member, member_count}
 use Rattle.theory.proofs.Holds.{well_holds}
 use Rattle.theory.proofs.HoldsDrawn.{holds_drawn}
 use Rattle.links.specs.Reads.{SlotOf}
-use Rattle.walks.specs.Steps.{Position, Followed, Preceded}
+use Rattle.walks.specs.Steps.{Position, Adjoined}
 use Rattle.placing.specs.Positions.{Stands, Free}
 
--- next and prev walk from a position
+-- a walk to a neighbour starts from a position
 unfoldable pub stands_position : {m : Lent} {p : ℕ} → Stands m p
     → Position lft m.arrays.left m.arrays.right m.arrays.pc m.root p
 stands_position {m} v = record {
@@ -28,10 +28,9 @@ stands_position {m} v = record {
   stands = v.here;
 }
 
--- what they find there is the slot next to it on a side
+-- what is found there is the slot next to it on a side
 abbrev pub Stepped : Side → Lent → (p found : ℕ) → Type 0
-Stepped lft m p found = Preceded m.arrays.left m.arrays.right m.arrays.pc m.root p found
-Stepped rgt m p found = Followed m.arrays.left m.arrays.right m.arrays.pc m.root p found
+Stepped d m p found = Adjoined d m.arrays.left m.arrays.right m.arrays.pc m.root p found
 
 pub step_found : (d : Side) {m : Lent} {p found : ℕ} → Stands m p → Stepped d m p found
     → found ≡ next_in p (facing d (slots (tree_of m)))

@@ -1,5 +1,5 @@
 -- What the functions that hang a slot require, and what they tell or leave.
-use Rattle.std.specs.Prelude.{ℕ, ◌≤◌, ◌<◌, Bool, List, ◌≡◌, eqb, length}
+use Rattle.std.specs.Prelude.{ℕ, ◌≤◌, ◌<◌, List, ◌≡◌, eqb, length}
 use Rattle.model.specs.Branch.{choose, pick}
 use Rattle.model.specs.Tree.{Side, lft, rgt, opp, leaf, slots, Frame, plug, above, side_of}
 use Rattle.model.specs.Lent.{Lent, at, key_of, tree_of}
@@ -13,7 +13,8 @@ use Rattle.theory.specs.Slots.{Below}
 use Rattle.theory.specs.Lists.{facing, place_next}
 use Rattle.theory.specs.Between.{between}
 use Rattle.descent.specs.declared.types.InsertCursor.{InsertCursor}
-use Rattle.descent.specs.Entries.{side_if, place_told}
+use Rattle.links.specs.Sides as sides
+use Rattle.descent.specs.Entries.{place_told}
 use Rattle.refusals.specs.Tested.{Beside}
 use Rattle.placing.specs.declared.types.Gap.{Gap}
 use Rattle.placing.specs.Positions.{Free}
@@ -23,7 +24,7 @@ use Rattle.placing.specs.Positions.{Free}
 -- the code's place is the one at the end of the way w; in an empty tree it has no side
 pub record At (place : InsertCursor) (w : List Frame) : Type 0 where
   pub parent_is : place.parent.0 ≡ above w
-  pub side_is : 0 < above w → side_if place.on_left ≡ side_of w
+  pub side_is : 0 < above w → sides.side_of place.side ≡ side_of w
 
 -- the lent numbers are well formed, the place is an empty one of their tree, and s is free
 pub record HangPre (m : Lent) (place : InsertCursor) (s : ℕ) : Type 0 where
@@ -55,10 +56,10 @@ pub record BesidePre (links : List ℕ) (p : ℕ) : Type 0 where
   pub top : p ≤ length links
   pub below : Below links
 
-pub record FoundBeside (links : List ℕ) (p n : ℕ) (is_on_left : Bool) (place : InsertCursor) : Type 0 where
-  pub is : place_told place ≡ beside_at links p n (side_if is_on_left)
+pub record FoundBeside (links : List ℕ) (p n : ℕ) (d : Side) (place : InsertCursor) : Type 0 where
+  pub is : place_told place ≡ beside_at links p n d
 
--- ---- gap_after (the side rgt) and gap_before
+-- ---- gap
 
 -- of two slots the one that stands earlier, where the second is next to the first on the side d
 abbrev pub earlier_of : Side → ℕ → ℕ → ℕ

@@ -1,32 +1,39 @@
--- What a caller makes of the tests: of a code that it has matched, of two tests in a row, of the keys beside a place.
+-- What a caller makes of the tests: of one that has passed or refused, of two in a row, of the keys beside a place.
 use Prim.Native.Nat.{ℕ}
 use mathlib.Core.Bool.{Bool, false}
 use mathlib.Core.List.{List}
-use mathlib.Core.Logic.{⊎_elim}
 use mathlib.Core.Path.{◌≡◌, refl, sym, ap}
+use Rattle.std.proofs.Common.{Result, Ok, Err}
 use Rattle.model.specs.Lent.{Arrays, Lent, at, key_of}
 use Rattle.model.specs.Commands.{Command}
 use Rattle.model.specs.Operations.{operate}
 use Rattle.model.specs.Answers as model
-use Rattle.model.specs.Answers.{done, is_done, refusal}
+use Rattle.model.specs.Answers.{done, is_done, then_test, refusal, refused}
 use Rattle.theory.specs.Between.{both_test, between}
-use Rattle.theory.proofs.Tests.{code_cases}
 use Rattle.theory.proofs.Operate.{operate_refused}
-use Rattle.links.specs.declared.types.Code.{Code}
-use Rattle.links.specs.declared.types.Code.TheVariants.{Done}
-use Rattle.links.specs.Answers.{code_of}
-use Rattle.links.proofs.Answers.{not_done}
-use Rattle.refusals.specs.Tested.{PositionTested, BothTested}
+use Rattle.links.specs.declared.types.Refusal.{Refusal}
+use Rattle.links.specs.Outcomes.{refusal_code, verdict, outcome_of}
+use Rattle.links.proofs.Answers.{refuses}
+use Rattle.refusals.specs.Tested.{PositionTested, SlotTested, BothTested}
 
--- In the arm of Done the test has passed.
-pub matched_done : (c : Code) → c ≡ Done → code_of c ≡ done
-matched_done c e = ap code_of e
+-- A test that answers Ok has passed.
+pub passed : {A : Type 0} {a : A} (r : Result A Refusal) → r ≡ Ok a → verdict r ≡ done
+passed r e = ap verdict e
 
--- In the arm of all other cases, and in an `else`, it has refused.
-pub matched_other : (c : Code) → (c ≡ Done → ⊥) → is_done (code_of c) ≡ false
-matched_other c k = ⊎_elim (λ e. absurd (not_done c k e)) (λ e. e) (code_cases (code_of c))
+-- One that answers Err has refused.
+pub refuses_by : {A : Type 0} {why : Refusal} (r : Result A Refusal) → r ≡ Err why → verdict r ≡ refusal_code why
+refuses_by r e = ap verdict e
 
--- A position's test and then test_both are the model's two tests in a row.
+-- Two tests in a row: the first refuses, or it passes and the second decides.
+module _ {pc : List ℕ} {first : model.Code} {s : ℕ} where
+  pub both_passed : {code : model.Code} → first ≡ done → SlotTested pc s code → BothTested pc first s code
+  unfolding then_test
+  both_passed e t = record { is = λ a same. rw e (t.is a same) }
+
+  pub both_refused : is_done first ≡ false → BothTested pc first s first
+  unfolding then_test
+  both_refused e = record { is = λ a _. rw e }
+
 pub both_tested : {needed : Bool} {pc : List ℕ} {p s : ℕ} {first code : model.Code}
     → PositionTested needed pc p first → BothTested pc first s code
     → (a : Arrays) → a.pc ≡ pc → code ≡ both_test needed p s a
@@ -39,8 +46,7 @@ pub between_keys : (a : Arrays) (earlier k later : ℕ)
 unfolding key_of
 between_keys a earlier k later = refl
 
--- A call that is refused: the answer of `refused`, and every number as it was.
-pub answer_refused : (c : Command) (m : Lent) {code : model.Code} {r : model.Answer}
-    → r ≡ record { code = code; probes = 0; slot = 0 } → code ≡ refusal c m → is_done code ≡ false
-    → record { answer = r; after = m } ≡ operate c m
-answer_refused c m {code} e f g = rw e (sym (operate_refused c m code (sym f) g))
+-- A call that is refused: why, and every number as it was.
+pub answer_refused : (c : Command) (m : Lent) (why : Refusal) → refusal_code why ≡ refusal c m
+    → outcome_of (Err why) m ≡ operate c m
+answer_refused c m why e = sym (operate_refused c m (refusal_code why) (sym e) (refuses why))

@@ -4,17 +4,16 @@ use native.Mathlib.Omega.{arith}
 use mathlib.Core.Path.{◌≡◌, ◌∙◌}
 use mathlib.Core.Bool.{Bool, true, false}
 use mathlib.Core.List.{List}
-use mathlib.Core.Option.{some}
-use lib.Dec.{leb}
+use lib.Dec.{leb, eqb}
 use lib.ListN.{length}
-use borrow.Author.Tests.{eq-eqb, ne_eqb, lt-ltb, le-ltb, le-leb, lt-leb}
+use borrow.Author.Tests.{eq-eqb, ne_eqb, lt-ltb, le-ltb}
 use Rattle.model.specs.Branch.{choose}
 use Rattle.model.specs.Lent.{Arrays, capacity, pc_of, is_linked}
-use Rattle.model.specs.Answers.{Code, done, bad_slot, already_linked, not_linked, null_cursor, bad_record, is_done}
-use Rattle.model.specs.Answers.{kind_test, position_test, slot_test, then_test}
+use Rattle.model.specs.Answers.{Code, done, bad_slot, already_linked, not_linked, null_cursor}
+use Rattle.model.specs.Answers.{position_test, slot_test}
 use Rattle.theory.specs.Between.{up_to, from_on, between}
 use Rattle.links.specs.Reads.{linked_at, GotLinked}
-use Rattle.refusals.specs.Tested.{PositionTested, SlotTested, BothTested}
+use Rattle.refusals.specs.Tested.{PositionTested, SlotTested}
 
 -- what is_linked tells of pc, the model tells of the arrays
 linked_is : (a : Arrays) {pc : List ℕ} {s : ℕ} {linked : Bool} → a.pc ≡ pc → GotLinked pc s linked
@@ -78,45 +77,25 @@ module _ {pc : List ℕ} {s : ℕ} where
       → SlotTested pc s done
   slot_free apart top g e = rw e at (slot_at apart top g)
 
--- ---- a test and then the new slot: the first passed, or refused
-
-module _ {pc : List ℕ} {first : Code} {s : ℕ} where
-  pub both_passed : {code : Code} → first ≡ done → SlotTested pc s code → BothTested pc first s code
-  unfolding then_test
-  both_passed e t = record { is = λ a same. rw e (t.is a same) }
-
-  pub both_refused : is_done first ≡ false → BothTested pc first s first
-  unfolding then_test
-  both_refused e = record { is = λ a _. rw e }
-
--- ---- the kind of a bound
-
-pub kind_known : {kind : ℕ} → kind ≤ 2 → done ≡ kind_test (some kind)
-unfolding kind_test
-kind_known {kind} e = rw (le-leb kind 2 e)
-
-pub kind_unknown : {kind : ℕ} → 2 < kind → bad_record ≡ kind_test (some kind)
-unfolding kind_test
-kind_unknown {kind} e = rw (lt-leb kind 2 e)
-
 -- ---- the keys beside a place: there is no slot, or its key is compared
 
 module _ (key : ℕ → ℕ) (s k : ℕ) where
-  pub up_to_none : s ≡ 0 → true ≡ up_to key s k
+  pub up_to_none : s ≡ 0 → eqb s 0 ≡ up_to key s k
   unfolding up_to
   up_to_none e = rw (eq-eqb s 0 e)
 
-  pub up_to_key : {found : ℕ} → (s ≡ 0 → ⊥) → found ≡ key s → leb found k ≡ up_to key s k
+  pub up_to_key : {found : ℕ} {told : Bool} → (s ≡ 0 → ⊥) → found ≡ key s → told ≡ leb found k → told ≡ up_to key s k
   unfolding up_to
-  up_to_key apart e = rw (ne_eqb s 0 apart, e)
+  up_to_key apart e is = is ∙ rw (ne_eqb s 0 apart, e)
 
-  pub from_on_none : s ≡ 0 → true ≡ from_on key s k
+  pub from_on_none : s ≡ 0 → eqb s 0 ≡ from_on key s k
   unfolding from_on
   from_on_none e = rw (eq-eqb s 0 e)
 
-  pub from_on_key : {found : ℕ} → (s ≡ 0 → ⊥) → found ≡ key s → leb k found ≡ from_on key s k
+  pub from_on_key : {found : ℕ} {told : Bool} → (s ≡ 0 → ⊥) → found ≡ key s → told ≡ leb k found
+      → told ≡ from_on key s k
   unfolding from_on
-  from_on_key apart e = rw (ne_eqb s 0 apart, e)
+  from_on_key apart e is = is ∙ rw (ne_eqb s 0 apart, e)
 
 -- Where the earlier key is too large the later one is not asked, else it decides.
 module _ (key : ℕ → ℕ) (earlier k later : ℕ) {low : Bool} where

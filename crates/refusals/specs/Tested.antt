@@ -12,7 +12,7 @@ pub record PositionTested (needed : Bool) (pc : List ℕ) (position : ℕ) (code
 pub record SlotTested (pc : List ℕ) (slot : ℕ) (code : Code) : Type 0 where
   pub is : (a : Arrays) → a.pc ≡ pc → code ≡ slot_test (some slot) a
 
--- test_both: a test gave `first`, and where that is Done the new slot is tested.
+-- two tests in a row: the one gave `first`, and where that is Done the new slot is tested.
 pub record BothTested (pc : List ℕ) (first : Code) (slot : ℕ) (code : Code) : Type 0 where
   pub is : (a : Arrays) → a.pc ≡ pc → code ≡ then_test first (λ _. slot_test (some slot) a)
 

@@ -1,83 +1,55 @@
-// The tests of a call, each by itself, and the two ways to answer. A test that passes says Done.
+// The tests of a call, each by itself: Ok, or why the call is refused.
 #![tactic(auto)]
 
 ghost use Rattle.std.specs.Prelude.{◌≤◌, true, false, ◌≡◌, length};
-ghost use Rattle.std.proofs.Math.Option.{some};
 ghost use Rattle.model.specs.Lent.{at};
-ghost use Rattle.model.specs.Answers.{done, kind_test};
 ghost use Rattle.theory.specs.Between.{up_to, from_on, between};
-ghost use Rattle.links.specs.Answers.{code_of, told};
-ghost use Rattle.refusals.specs.Tested.{PositionTested, SlotTested, BothTested, Beside};
+ghost use Rattle.links.specs.Outcomes.{verdict};
+ghost use Rattle.refusals.specs.Tested.{PositionTested, SlotTested, Beside};
 
-use links::types::{Answer, Code, Key, Slot};
+use links::types::{Key, Refusal, Slot};
 
-// The last kind of bound; the first is 0.
-const LAST_KIND: u32 = 2;
-
-// BadSlot, NotLinked or Done; 0 is a position.
-pub fn test_position(pc: &[u32], position: Slot) -> Code
-    ensures { PositionTested false pc.now position.0 (code_of result) }
+// BadSlot, NotLinked or Ok; 0 is a position.
+pub fn test_position(pc: &[u32], position: Slot) -> Result<(), Refusal>
+    ensures { PositionTested false pc.now position.0 (verdict result) }
 {
-    let p = position.0;
-    if p == 0 {
-        return Code::Done;
+    if position.0 == 0 {
+        return Ok(());
     }
-    if pc.len() < p as usize {
-        return Code::BadSlot;
+    if pc.len() < position.0 as usize {
+        return Err(Refusal::BadSlot);
     }
     if links::is_linked(pc, position) {
-        Code::Done
+        Ok(())
     } else {
-        Code::NotLinked
+        Err(Refusal::NotLinked)
     }
 }
 
-// BadSlot, NullCursor, NotLinked or Done.
-pub fn test_node(pc: &[u32], position: Slot) -> Code
-    ensures { PositionTested true pc.now position.0 (code_of result) }
+// BadSlot, NullCursor, NotLinked or Ok.
+pub fn test_node(pc: &[u32], position: Slot) -> Result<(), Refusal>
+    ensures { PositionTested true pc.now position.0 (verdict result) }
 {
     if position.0 == 0 {
-        return Code::NullCursor;
+        return Err(Refusal::NullCursor);
     }
     test_position(pc, position)
 }
 
-// BadSlot, AlreadyLinked or Done.
-pub fn test_new(pc: &[u32], slot: Slot) -> Code
-    ensures { SlotTested pc.now slot.0 (code_of result) }
+// BadSlot, AlreadyLinked or Ok.
+pub fn test_new(pc: &[u32], slot: Slot) -> Result<(), Refusal>
+    ensures { SlotTested pc.now slot.0 (verdict result) }
 {
-    let s = slot.0;
-    if s == 0 {
-        return Code::BadSlot;
+    if slot.0 == 0 {
+        return Err(Refusal::BadSlot);
     }
-    if pc.len() < s as usize {
-        return Code::BadSlot;
+    if pc.len() < slot.0 as usize {
+        return Err(Refusal::BadSlot);
     }
     if links::is_linked(pc, slot) {
-        Code::AlreadyLinked
+        Err(Refusal::AlreadyLinked)
     } else {
-        Code::Done
-    }
-}
-
-// The refusal of the position, which `at` tells, and where there is none that of the new slot.
-pub fn test_both(pc: &[u32], at: Code, slot: Slot) -> Code
-    ensures { BothTested pc.now (code_of at) slot.0 (code_of result) }
-{
-    match at {
-        Code::Done => test_new(pc, slot),
-        _ => at,
-    }
-}
-
-// BadRecord or Done.
-pub fn test_kind(kind: u32) -> Code
-    ensures { code_of result ≡ kind_test (some kind) }
-{
-    if kind <= LAST_KIND {
-        Code::Done
-    } else {
-        Code::BadRecord
+        Ok(())
     }
 }
 
@@ -86,10 +58,7 @@ fn up_to(key: &[u64], slot: Slot, k: Key) -> bool
     requires { slot.0 ≤ length key.now }
     ensures { result ≡ up_to (at key.now) slot.0 k.0 }
 {
-    if slot.0 == 0 {
-        return true;
-    }
-    links::key_of(key, slot).0 <= k.0
+    slot.0 == 0 || links::key_of(key, slot) <= k
 }
 
 // Whether the key of a slot is at least k; 0 is no slot.
@@ -97,10 +66,7 @@ fn from_on(key: &[u64], slot: Slot, k: Key) -> bool
     requires { slot.0 ≤ length key.now }
     ensures { result ≡ from_on (at key.now) slot.0 k.0 }
 {
-    if slot.0 == 0 {
-        return true;
-    }
-    k.0 <= links::key_of(key, slot).0
+    slot.0 == 0 || k <= links::key_of(key, slot)
 }
 
 // Whether a key may stand between two slots, either of them 0.
@@ -109,26 +75,4 @@ pub fn in_order(key: &[u64], before: Slot, k: Key, after: Slot) -> bool
     ensures { result ≡ between (at key.now) before.0 k.0 after.0 }
 {
     up_to(key, before, k) && from_on(key, after, k)
-}
-
-// The answer of a call that is refused, with two zeros beside the code.
-pub fn refused(code: Code) -> Answer
-    ensures { told result ≡ record { code = code_of code; probes = 0; slot = 0 } }
-{
-    Answer {
-        code,
-        probes: 0,
-        slot: Slot(0),
-    }
-}
-
-// The answer of a call that is done.
-pub fn done(probes: u32, slot: Slot) -> Answer
-    ensures { told result ≡ record { code = done; probes = probes; slot = slot.0 } }
-{
-    Answer {
-        code: Code::Done,
-        probes,
-        slot,
-    }
 }

@@ -10,4 +10,4 @@ clear-requires c =
 
 pub returns : goal.returns
 returns c =
-    cleared c.requires c.clear.ensures c.done.ensures
+    cleared c.requires c.clear.ensures

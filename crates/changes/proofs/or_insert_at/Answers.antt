@@ -1,29 +1,27 @@
-use Rattle.std.proofs.Common.{rules}
+use Rattle.std.proofs.Common.{rules, ◌≡◌, Err}
 use Rattle.theory.proofs.Holds.{well_holds}
 use Rattle.descent.proofs.Trees.{holds_searchable}
-use Rattle.refusals.proofs.Callers.{matched_done, matched_other}
 use Rattle.changes.proofs.Entering.{at_refused, at_stale, at_fill, at_inserted}
 use Rattle.changes.proofs.or_insert_at.Goals as goal
 
-pub returns-in_default : goal.returns-in_default
-returns-in_default c =
-    search (rules, at_refused, matched_other)
+pub returns-in_err-test_new : goal.returns-in_err-test_new
+returns-in_err-test_new c =
+    let told : c.from_residual.result ≡ Err c.in_err-test_new.field-0.0 = search rules in
+    rw told (at_refused c.args.entry _ _ c.in_err-test_new.ensures)
 
-pub entry-sought-requires : goal.entry-sought-requires
-entry-sought-requires c =
+pub entry-fresh-requires : goal.entry-fresh-requires
+entry-fresh-requires c =
     search (rules, holds_searchable, well_holds)
 
-pub returns-then-not-same_entry : goal.returns-then-not-same_entry
-returns-then-not-same_entry c =
-    at_stale c.requires c.test_new-new.ensures c.args.entry (matched_done _ c.in-Done.is) c.entry-sought.ensures
-    c.same_entry.ensures c.if-not-same_entry.true c.refused-then-not-same_entry.ensures
+pub returns-then-ne : goal.returns-then-ne
+returns-then-ne c =
+    at_stale c.requires c.in_ok-test_new.ensures c.args.entry c.entry-fresh.ensures (search rules)
 
 pub fill-requires : goal.fill-requires
 fill-requires c =
-    at_fill c.requires c.test_new-new.ensures c.args.entry (matched_done _ c.in-Done.is) c.entry-sought.ensures
-    c.same_entry.ensures c.if-not-same_entry.false
+    at_fill c.requires c.in_ok-test_new.ensures c.args.entry c.entry-fresh.ensures (search rules)
 
 pub returns : goal.returns
 returns c =
-    at_inserted c.requires c.test_new-new.ensures c.args.entry (matched_done _ c.in-Done.is) c.entry-sought.ensures
-    c.same_entry.ensures c.if-not-same_entry.false c.fill.ensures
+    at_inserted c.requires c.in_ok-test_new.ensures c.args.entry c.entry-fresh.ensures (search rules)
+    c.fill.ensures

@@ -10,6 +10,6 @@ pub returns-in-Occupied : goal.returns-in-Occupied
 returns-in-Occupied c =
     search (rules, filled_occupied)
 
-pub returns-in-Vacant : goal.returns-in-Vacant
-returns-in-Vacant c =
+pub returns : goal.returns
+returns c =
     search (rules, filled_vacant)

@@ -1,11 +1,11 @@
-use Rattle.std.proofs.Common.{rules}
+use Rattle.links.proofs.Shapes.{sound_well}
 use Rattle.queries.proofs.Searching.{searchable, entry_found}
 use Rattle.queries.proofs.entry.Goals as goal
 
-pub entry-sought-requires : goal.entry-sought-requires
-entry-sought-requires c =
-    search (rules, searchable)
+pub entry-requires : goal.entry-requires
+entry-requires c =
+    searchable (sound_well c.args.tree)
 
 pub returns : goal.returns
 returns c =
-    entry_found c.requires c.entry-sought.ensures
+    entry_found (sound_well c.args.tree) c.entry.ensures

@@ -1,11 +1,11 @@
-use Rattle.std.proofs.Common.{rules}
+use Rattle.links.proofs.Shapes.{sound_well}
 use Rattle.queries.proofs.Searching.{searchable, find_answered}
 use Rattle.queries.proofs.find.Goals as goal
 
 pub find-met-requires : goal.find-met-requires
 find-met-requires c =
-    search (rules, searchable)
+    searchable (sound_well c.args.tree)
 
 pub returns : goal.returns
 returns c =
-    search (rules, find_answered)
+    find_answered (sound_well c.args.tree) c.find-met.ensures

@@ -2,12 +2,12 @@ use Rattle.std.proofs.Common.{rules}
 use Rattle.refusals.proofs.Tested.{slot_none, slot_past, slot_linked, slot_free}
 use Rattle.refusals.proofs.test_new.Goals as goal
 
-pub returns-then-s-eq0 : goal.returns-then-s-eq0
-returns-then-s-eq0 c =
+pub returns-then-slot-eq0 : goal.returns-then-slot-eq0
+returns-then-slot-eq0 c =
     search (rules, slot_none)
 
-pub returns-then-pc-s : goal.returns-then-pc-s
-returns-then-pc-s c =
+pub returns-then-pc-slot : goal.returns-then-pc-slot
+returns-then-pc-slot c =
     search (rules, slot_past)
 
 pub returns-then-is_linked : goal.returns-then-is_linked

@@ -6,6 +6,6 @@ pub returns-then-slot-eq0 : goal.returns-then-slot-eq0
 returns-then-slot-eq0 c =
     search (rules, up_to_none)
 
-pub returns : goal.returns
-returns c =
-    search (rules, up_to_key)
+pub returns-else-slot-eq0 : goal.returns-else-slot-eq0
+returns-else-slot-eq0 c =
+    up_to_key _ _ _ c.if-slot-eq0.false c.key_of.ensures (search rules)
