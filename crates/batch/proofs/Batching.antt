@@ -3,30 +3,23 @@ use Prim.Native.Nat.{ℕ, ◌*◌, ◌/◌, ◌%◌, ◌≤◌, ◌<◌}
 use native.Mathlib.Omega.{arith}
 use mathlib.Core.Path.{◌≡◌, ap, sym, ◌∙◌}
 use mathlib.Core.Logic.{◌≢◌, ◌⊎◌, inl, inr}
-use mathlib.Core.Bool.{Bool, true, false, or-true}
+use mathlib.Core.Bool.{true, false, or-true}
 use mathlib.Core.List.{List}
+use Rattle.std.proofs.Common.{Ok, Err}
 use lib.ListN.{length}
 use borrow.Author.Tests.{eq-eqb, ne_eqb, lt-ltb, le-ltb}
 use Rattle.model.specs.Limits.{record_size, answer_size, batch_limit}
 use Rattle.model.specs.Lent.{Lent}
 use Rattle.model.specs.Check.{check}
-use Rattle.model.specs.Answers.{bad_length, short, damaged, done}
-use Rattle.model.specs.Batch.{BatchOutcome, refused_batch, records, filled, bad_length_of, is_short, batch}
+use Rattle.model.specs.Answers.{bad_length, short}
+use Rattle.model.specs.Batch.{refused_batch, records, filled, bad_length_of, is_short, batch}
 use Rattle.theory.proofs.Check.{check_sound}
-use Rattle.links.specs.Answers.{code_of}
-use Rattle.links.specs.declared.types.Code.{Code}
+use Rattle.links.specs.declared.types.Refusal.{Refusal}
+use Rattle.links.specs.declared.types.Refusal.TheVariants.{Damaged}
+use Rattle.links.specs.declared.types.Sound.{Sound}
+use Rattle.links.specs.Bundles.{viewed}
 use Rattle.runs.specs.Runs.{AllPre, Ran}
-use Rattle.batch.specs.Batched.{batch_told, refusal}
-use Rattle.batch.specs.declared.types.Batched.{Batched}
-
--- what `refused` answers
-pub refused_told : {r : Batched} {c : Code} {buffer : List ℕ} {m : Lent} {o : BatchOutcome}
-    → r ≡ refusal c → refused_batch (code_of c) buffer m ≡ o → batch_told r buffer m ≡ o
-refused_told {buffer = buffer} {m = m} is same = ap (λ r. batch_told r buffer m) is ∙ same
-
--- the records are few
-pub count_fits : (size : ℕ) → size ≤ batch_limit → size / record_size < 4294967296
-count_fits size fits = omega arith
+use Rattle.batch.specs.Batched.{batch_told}
 
 module _ (input buffer : List ℕ) (m : Lent) where
   -- 9
@@ -47,29 +40,31 @@ module _ (input buffer : List ℕ) (m : Lent) where
     unfolding batch is_short records
     batch_short less = rw (right_length, lt-ltb _ _ less)
 
-    module _ (room : answer_size * (length input / record_size) ≤ length buffer)
-        {passed : Bool} (is : passed ≡ check m) where
+    module _ (room : answer_size * (length input / record_size) ≤ length buffer) where
       enough : is_short input buffer ≡ false
       unfolding is_short records
       enough = le-ltb _ _ room
 
       -- 1
-      pub batch_damaged : passed ≡ false → refused_batch damaged buffer m ≡ batch input buffer m
+      pub batch_damaged : {why : Refusal} → (why ≡ Damaged) × (check m ≡ false)
+          → batch_told (Err why) buffer m ≡ batch input buffer m
       unfolding batch
-      batch_damaged e = rw (right_length, enough, sym is ∙ e)
+      batch_damaged is = rw (right_length, enough, is.0, is.1)
 
       -- the records
-      pub batch_within : passed ≡ true → AllPre (length input / record_size) input buffer m
-      batch_within e = record {
-        well = check_sound m (sym is ∙ e);
-        small = omega arith;
-        inside = omega arith;
-        room = room;
-      }
+      module _ (s : Sound) (same : viewed s.view ≡ m) where
+        passed : check m ≡ true
+        passed = sym (ap check same) ∙ s.shaped
 
-      pub batch_done : {buffer' : List ℕ} {m' : Lent} → passed ≡ true
-          → Ran (length input / record_size) input buffer buffer' m m'
-          → record { code = done; count = length input / record_size; buffer = buffer'; after = m' }
-          ≡ batch input buffer m
-      unfolding batch filled records
-      batch_done e ran = rw (right_length, enough, sym is ∙ e, ran.after, ran.laid)
+        pub batch_within : AllPre (length input / record_size) input buffer m
+        batch_within = record {
+          well = check_sound m passed;
+          small = omega arith;
+          inside = omega arith;
+          room = room;
+        }
+
+        pub batch_done : {buffer' : List ℕ} {m' : Lent} → Ran (length input / record_size) input buffer buffer' m m'
+            → batch_told (Ok (length input / record_size)) buffer' m' ≡ batch input buffer m
+        unfolding batch filled records
+        batch_done ran = rw (right_length, enough, passed, ran.after, ran.laid)

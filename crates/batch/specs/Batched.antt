@@ -1,15 +1,11 @@
 -- The answer of a batch call as the model has it.
-use Rattle.std.specs.Prelude.{ℕ, List}
+use Rattle.std.specs.Prelude.{ℕ, List, Result}
+use Rattle.std.specs.Result.{result_unwrap_or}
 use Rattle.model.specs.Lent.{Lent}
 use Rattle.model.specs.Batch.{BatchOutcome}
-use Rattle.links.specs.Answers.{code_of}
-use Rattle.links.specs.declared.types.Code.{Code}
-use Rattle.batch.specs.declared.types.Batched.{Batched}
+use Rattle.links.specs.Outcomes.{verdict}
+use Rattle.links.specs.declared.types.Refusal.{Refusal}
 
--- its code and its count, the buffer and the lent numbers after the call
-abbrev pub batch_told : Batched → (buffer : List ℕ) → Lent → BatchOutcome
-batch_told r buffer m = record { code = code_of r.code; count = r.count; buffer = buffer; after = m }
-
--- a batch that is refused whole has no answer
-abbrev pub refusal : Code → Batched
-refusal c = record { code = c; count = 0 }
+-- its code and how many answers there are, none where it is refused whole; the buffer and the lent numbers after it
+abbrev pub batch_told : Result ℕ Refusal → (buffer : List ℕ) → Lent → BatchOutcome
+batch_told r buffer m = record { code = verdict r; count = result_unwrap_or r 0; buffer = buffer; after = m }

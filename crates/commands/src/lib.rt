@@ -1,104 +1,71 @@
 // One command record on well-formed arrays: the operation that it asks for, or BadRecord.
 #![tactic(auto)]
 
+pub mod types;
+
 ghost use Rattle.std.specs.Prelude.{◌≡◌};
-ghost use Rattle.model.specs.Lent.{lent};
 ghost use Rattle.model.specs.WellFormed.{WellFormed};
 ghost use Rattle.model.specs.Operations.{operate};
-ghost use Rattle.model.specs.Batch.{obey as obeyed, command_of};
-ghost use Rattle.links.specs.Answers.{outcome_of};
+ghost use Rattle.model.specs.Batch.{obey as obeyed, command_of as commanded};
+ghost use Rattle.links.specs.Bundles.{viewed, lent_in, lent_out};
+ghost use Rattle.links.specs.Outcomes.{outcome_of};
 ghost use Rattle.records.specs.Records.{record_in};
-ghost use Rattle.commands.specs.Commands.{operation_of, Early, Late};
+ghost use Rattle.commands.specs.Commands.{asked, changing};
 
-use links::types::{Answer, Code, Slot};
+use links::types::{Answer, Lent, Links, Slot, Sound, View};
 use records::types::Record;
+use types::{Change, Command, Query};
 
-// The last of the operations that descend by a key; the others follow it.
-const LAST_DESCENT: u32 = 5;
-
-// Operations 1 to 5, which descend by a key.
-fn descend(
-    left: &mut [u32],
-    right: &mut [u32],
-    pc: &mut [u32],
-    key: &mut [u64],
-    root: &mut u32,
-    order: Record,
-) -> Answer
-    requires { Early (lent left.old right.old pc.old key.old root.old) order.operation }
-    ensures { outcome_of result
-        (lent left.new right.new pc.new key.new root.new)
-        ≡ obeyed operate (operation_of order)
-        (lent left.old right.old pc.old key.old root.old) }
+// What a query answers.
+fn look(tree: Sound, query: Query) -> Answer
+    ensures { outcome_of result (viewed tree.entry.view) ≡ operate (asked query) (viewed tree.entry.view) }
 {
-    let kind = order.kind;
-    let slot = order.slot;
-    let k = order.key;
-    let operation = order.operation;
-    let top = Slot(*root);
-    match operation {
-        1 => changes::insert(left, right, pc, key, root, slot, k),
-        2 => changes::or_insert(left, right, pc, key, root, slot, k),
-        3 => queries::find(left, right, pc, key, top, k),
-        4 => queries::lower_bound(left, right, pc, key, top, kind, k),
-        5 => queries::upper_bound(left, right, pc, key, top, kind, k),
-        _ => refusals::refused(Code::BadRecord),
+    match query {
+        Query::Find(k) => queries::find(tree, k),
+        Query::Bound(side, kind, k) => queries::bound(tree, side, kind, k),
+        Query::Neighbour(side, position) => queries::neighbour(tree, side, position),
     }
 }
 
-// Operations 6 to 12, which start from a position or take the whole tree.
-fn visit(
-    left: &mut [u32],
-    right: &mut [u32],
-    pc: &mut [u32],
-    key: &mut [u64],
-    root: &mut u32,
-    order: Record,
-) -> Answer
-    requires { Late (lent left.old right.old pc.old key.old root.old) order.operation }
-    ensures { outcome_of result
-        (lent left.new right.new pc.new key.new root.new)
-        ≡ obeyed operate (operation_of order)
-        (lent left.old right.old pc.old key.old root.old) }
+// What a change does.
+fn apply(lent: Lent, change: Change) -> Answer
+    requires { WellFormed (lent_in lent) }
+    ensures { outcome_of result (lent_out lent.exit) ≡ operate (changing change) (lent_in lent.entry) }
 {
-    let position = order.position;
-    let slot = order.slot;
-    let k = order.key;
-    let operation = order.operation;
-    let top = Slot(*root);
-    match operation {
-        6 => changes::remove(left, right, pc, key, root, position),
-        7 => queries::next(left, right, pc, key, top, position),
-        8 => queries::prev(left, right, pc, key, top, position),
-        9 => changes::insert_after(left, right, pc, key, root, position, slot, k),
-        10 => changes::insert_before(left, right, pc, key, root, position, slot, k),
-        11 => changes::replace_with(left, right, pc, key, root, position, slot, k),
-        12 => changes::clear(left, right, pc, key, root),
-        _ => refusals::refused(Code::BadRecord),
+    let Lent(left, right, pc, key, root) = lent;
+    match change {
+        Change::Insert(slot, k) => changes::insert(Lent(left, right, pc, key, root), slot, k),
+        Change::OrInsert(slot, k) => changes::or_insert(Lent(left, right, pc, key, root), slot, k),
+        Change::Remove(position) => changes::remove(Links(left, right, pc, root), key, position),
+        Change::InsertBeside(side, position, slot, k) => {
+            changes::insert_beside(Lent(left, right, pc, key, root), side, position, slot, k)
+        }
+        Change::ReplaceWith(position, slot, k) => {
+            changes::replace_with(Lent(left, right, pc, key, root), position, slot, k)
+        }
+        Change::Clear => changes::clear(Links(left, right, pc, root), key),
     }
 }
 
 // One record: what its operation does, or BadRecord where its mark or its operation is none.
-pub fn obey(
-    left: &mut [u32],
-    right: &mut [u32],
-    pc: &mut [u32],
-    key: &mut [u64],
-    root: &mut u32,
-    order: Record,
-) -> Answer
-    requires { WellFormed (lent left.old right.old pc.old key.old root.old) }
-    ensures { outcome_of result
-        (lent left.new right.new pc.new key.new root.new)
-        ≡ obeyed operate (command_of (record_in order))
-        (lent left.old right.old pc.old key.old root.old) }
+pub fn obey(lent: Lent, order: Record) -> Answer
+    requires { WellFormed (lent_in lent) }
+    ensures { outcome_of result (lent_out lent.exit)
+        ≡ obeyed operate (commanded (record_in order)) (lent_in lent.entry) }
 {
-    if order.mark != records::MARK {
-        return refusals::refused(Code::BadRecord);
-    }
-    if order.operation <= LAST_DESCENT {
-        descend(left, right, pc, key, root, order)
-    } else {
-        visit(left, right, pc, key, root, order)
-    }
+    let Lent(left, right, pc, key, root) = lent;
+    let change = match Command::try_from(order)? {
+        Command::Query(query) => {
+            let view = View {
+                left,
+                right,
+                pc,
+                key,
+                root: Slot(*root),
+            };
+            return look(Sound { view }, query);
+        }
+        Command::Change(change) => change,
+    };
+    apply(Lent(left, right, pc, key, root), change)
 }

@@ -8,7 +8,7 @@ use mathlib.Core.List.{List, [], ◌++◌, append_assoc, append-nil}
 use lib.ListN.{length, drop, length-append}
 use lib.Seq.{drop-drop}
 use Rattle.model.specs.Limits.{record_size, answer_size}
-use Rattle.model.specs.Lent.{Lent, lent}
+use Rattle.model.specs.Lent.{Lent}
 use Rattle.model.specs.WellFormed.{WellFormed}
 use Rattle.model.specs.Answers.{Answer, Outcome}
 use Rattle.model.specs.Operations.{operate}
@@ -146,12 +146,3 @@ answered_at index {input} {m = m} reads obeyed lays =
       after = ap (λ (o : Outcome). o.after) is;
       laid = rw (← ap (λ (o : Outcome). o.answer) is) lays;
     }
-
--- The loop: the records so far, and arrays that are as long as before.
-pub record Looping (count index : ℕ) (input l₀ r₀ p₀ k₀ b₀ l r p k b : List ℕ) (t₀ t : ℕ) : Type 0 where
-  pub so : Sofar count index input b₀ b (lent l₀ r₀ p₀ k₀ t₀) (lent l r p k t)
-  pub left : length l ≡ length l₀
-  pub right : length r ≡ length r₀
-  pub pc : length p ≡ length p₀
-  pub key : length k ≡ length k₀
-  pub answers : length b ≡ length b₀

@@ -5,14 +5,19 @@ use mathlib.Core.Path.{◌≡◌, refl, ap, sym, ◌∙◌}
 use mathlib.Core.Logic.{◌≢◌}
 use mathlib.Core.Bool.{Bool, true, false}
 use mathlib.Core.List.{List, [], ◌++◌, append_assoc, append-nil}
+use Rattle.std.proofs.Common.{Result, Err}
+use Rattle.std.specs.Result.{result_unwrap_or}
 use lib.ListN.{length, take, drop, length-append}
 use lib.Seq.{length-take-le, take_at}
 use borrow.Author.Tests.{eq-eqb, ne_eqb}
 use Rattle.model.specs.Limits.{record_size, answer_size}
 use Rattle.model.specs.Lent.{Lent}
 use Rattle.model.specs.Check.{check}
-use Rattle.model.specs.Answers.{Code, Answer, bad_record}
 use Rattle.model.specs.Batch.{BatchOutcome, batch, records, filled, bad_length_of, is_short, answer_bytes, tail_answer}
+use Rattle.links.specs.declared.types.Refusal.{Refusal}
+use Rattle.links.specs.declared.types.Refusal.TheVariants.{BadRecord}
+use Rattle.links.specs.Outcomes.{verdict, told}
+use Rattle.batch.specs.Batched.{batch_told}
 use Rattle.records.specs.Records.{Lays}
 use Rattle.records.proofs.Writing.{answer_length}
 use Rattle.serving.specs.Serving.{RespondPre, whole_batch, answered, Responded}
@@ -43,28 +48,28 @@ unfolding tail_answer
 tail_none input e = rw (eq-eqb _ _ e)
 
 tail_some : (input : List ℕ) → length input % record_size ≢ 0
-    → tail_answer input ≡ answer_bytes (record { code = bad_record; probes = 0; slot = 0 })
+    → tail_answer input ≡ answer_bytes (told (Err BadRecord))
 unfolding tail_answer
 tail_some input e = rw (ne_eqb _ _ e)
 
--- The batch was asked for the whole records alone.
-module _ {input buffer middle : List ℕ} (m : Lent) {m' : Lent} {code : Code} {count : ℕ}
+-- The batch was asked for the whole records alone; one that is refused has no answers.
+module _ {input piece buffer middle : List ℕ} (m : Lent) {m' : Lent} (batched : Result ℕ Refusal) {count : ℕ}
     (pre : RespondPre input buffer) (same : length middle ≡ length buffer)
-    (is : record { code = code; count = count; buffer = middle; after = m' }
-    ≡ batch (take (length input - length input % record_size) input) buffer m) where
+    (front : piece ≡ take (length input - length input % record_size) input)
+    (counted : count ≡ result_unwrap_or batched 0) (told-it : batch_told batched middle m' ≡ batch piece buffer m) where
   whole : length input - length input % record_size ≡ record_size * (length input / record_size)
   whole = omega arith
 
-  whole_is : record { code = code; count = count; buffer = middle; after = m' } ≡ whole_batch input buffer m
+  whole_is : record { code = verdict batched; count = count; buffer = middle; after = m' } ≡ whole_batch input buffer m
   unfolding whole_batch records
-  whole_is = is ∙ ap (λ n. batch (take n input) buffer m) whole
+  whole_is = rw (counted, ← whole, ← front) told-it
 
   few : count ≤ length input / record_size
   unfolding records
   few =
       let size = length input - length input % record_size in
-      let long : length (take size input) ≡ size = length-take-le size input (omega arith) in
-      omega (arith, long, ap (λ (o : BatchOutcome). o.count) is, batch_count (take size input) buffer m)
+      let long : length piece ≡ size = ap length front ∙ length-take-le size input (omega arith) in
+      omega (arith, long, counted, ap (λ (o : BatchOutcome). o.count) told-it, batch_count piece buffer m)
 
   answers_are : take (answer_size * count) middle ≡ answered (whole_batch input buffer m)
   unfolding answered
@@ -87,15 +92,13 @@ module _ {input buffer middle : List ℕ} (m : Lent) {m' : Lent} {code : Code} {
     pub room_for_tail : answer_size * count + answer_size ≤ length middle
     room_for_tail = omega (arith, few, pre.top, pre.room, same, cut)
 
-    pub responded_cut : {buffer' : List ℕ} {told-it : Answer}
-        → told-it ≡ record { code = bad_record; probes = 0; slot = 0 }
-        → Lays (answer_size * count) answer_size (answer_bytes told-it) middle buffer'
+    pub responded_cut : {buffer' : List ℕ}
+        → Lays (answer_size * count) answer_size (answer_bytes (told (Err BadRecord))) middle buffer'
         → Responded input buffer buffer' m m' (answer_size * count + answer_size)
-    responded_cut {told-it = told-it} refused-it lays = record {
-      bytes = laid_front (answer_size * count) answer_size lays (answer_length told-it) within
-          ∙ ap (λ front. front ++ answer_bytes told-it) answers_are
-          ∙ ap (λ rest. answered (whole_batch input buffer m) ++ rest)
-          (ap answer_bytes refused-it ∙ sym (tail_some input cut));
+    responded_cut lays = record {
+      bytes = laid_front (answer_size * count) answer_size lays (answer_length (told (Err BadRecord))) within
+          ∙ ap (λ bytes. bytes ++ answer_bytes (told (Err BadRecord))) answers_are
+          ∙ ap (λ rest. answered (whole_batch input buffer m) ++ rest) (sym (tail_some input cut));
       after = ap (λ (o : BatchOutcome). o.after) whole_is;
       top = omega (arith, room_for_tail, lays.same);
     }

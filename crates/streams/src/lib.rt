@@ -16,6 +16,7 @@ pub fn fill<R: Read>(input: &mut R, buffer: &mut [u8]) -> io::Result<usize>
     ensures end { IfOk result (λ n. n < length buffer.new → IsAtEnd (R.remaining input.new)) }
 {
     let mut done = 0;
+    // Counted by hand: a read takes as many bytes as it likes, so no range and no iterator gives the places.
     while done < buffer.len() {
         let n = input.read(&mut buffer[done..])?;
         if n == 0 {

@@ -2,6 +2,7 @@
 // leaves: its answer, the root, and the numbers of every slot.
 #![tactic(auto)]
 
+use links::types::{Lent, Slot, View};
 use std::io;
 use std::io::Write;
 
@@ -9,30 +10,18 @@ const SLOTS: usize = 12;
 
 // Writes the lowest two bytes of a number.
 fn put_half<W: Write>(sink: &mut W, number: u32) -> io::Result<()> {
-    sink.write_all(&[(number % 256) as u8, (number / 256 % 256) as u8])
+    let [low, high, ..] = number.to_le_bytes();
+    sink.write_all(&[low, high])
 }
 
-// Writes the bytes of a key.
-fn put_key<W: Write>(sink: &mut W, key: u64) -> io::Result<()> {
-    put_half(sink, (key % 65536) as u32)?;
-    put_half(sink, (key / 65536 % 65536) as u32)?;
-    put_half(sink, (key / 4294967296 % 65536) as u32)?;
-    put_half(sink, (key / 281474976710656) as u32)
-}
-
-// Writes the numbers of all slots.
-fn put_slots<W: Write>(
-    sink: &mut W,
-    left: &[u32; SLOTS],
-    right: &[u32; SLOTS],
-    pc: &[u32; SLOTS],
-    key: &[u64; SLOTS],
-) -> io::Result<()> {
-    for i in 0..SLOTS {
-        put_half(sink, left[i])?;
-        put_half(sink, right[i])?;
-        put_half(sink, pc[i])?;
-        put_key(sink, key[i])?;
+// Writes the root and the numbers of all slots.
+fn put_tree<W: Write>(sink: &mut W, tree: View) -> io::Result<()> {
+    put_half(sink, tree.root.0)?;
+    for (((left, right), pc), key) in tree.left.iter().zip(tree.right).zip(tree.pc).zip(tree.key) {
+        put_half(sink, *left)?;
+        put_half(sink, *right)?;
+        put_half(sink, *pc)?;
+        sink.write_all(&key.to_le_bytes())?;
     }
     Ok(())
 }
@@ -47,23 +36,27 @@ fn main(rt: HostRuntime) -> io::Result<()> {
     let mut answer = [0u8; records::ANSWER];
     let mut source = rt.stdin();
     let mut sink = rt.stdout();
+    // Nothing says that the input ends, so the turns are counted up to a number that no run reaches.
     for _ in 0..u64::MAX {
         let n = streams::fill(&mut source, &mut input)?;
         if n == 0 {
             break;
         }
-        batch::batch(
-            &mut left,
-            &mut right,
-            &mut pc,
-            &mut key,
-            &mut root,
+        // One record with room for its answer, on a well-formed tree: such a batch is never refused as a whole.
+        let _ = batch::batch(
+            Lent(&mut left, &mut right, &mut pc, &mut key, &mut root),
             &input,
             &mut answer,
         );
         sink.write_all(&answer)?;
-        put_half(&mut sink, root)?;
-        put_slots(&mut sink, &left, &right, &pc, &key)?;
+        let tree = View {
+            left: &left,
+            right: &right,
+            pc: &pc,
+            key: &key,
+            root: Slot(root),
+        };
+        put_tree(&mut sink, tree)?;
     }
     Ok(())
 }

@@ -1,14 +1,21 @@
-use Rattle.commands.proofs.Numbers.{marked, unmarked}
+use Rattle.std.proofs.Common.{rules, ◌≡◌, Err}
+use Rattle.theory.proofs.Check.{check_complete}
+use Rattle.commands.proofs.Numbers.{obeyed_none, obeyed_some}
 use Rattle.commands.proofs.obey.Goals as goal
 
-pub returns-then-order-ne-MARK : goal.returns-then-order-ne-MARK
-returns-then-order-ne-MARK c =
-    unmarked _ _ c.if-order-ne-MARK.true c.refused.ensures
+pub returns-in_err-query : goal.returns-in_err-query
+returns-in_err-query c =
+    let told : c.from_residual.result ≡ Err c.in_err-query.field-0.0 = search rules in
+    rw told (obeyed_none _ _ c.in_err-query.ensures)
 
-pub returns-then-order-le-LAST_DESCENT : goal.returns-then-order-le-LAST_DESCENT
-returns-then-order-le-LAST_DESCENT c =
-    marked _ _ c.if-order-ne-MARK.false c.descend.ensures
+pub invariant_of-look : goal.invariant_of-look
+invariant_of-look c =
+    record { shaped = check_complete _ c.requires }
 
-pub returns-else-order-le-LAST_DESCENT : goal.returns-else-order-le-LAST_DESCENT
-returns-else-order-le-LAST_DESCENT c =
-    marked _ _ c.if-order-ne-MARK.false c.visit.ensures
+pub returns-in-Query : goal.returns-in-Query
+returns-in-Query c =
+    obeyed_some _ _ (rw c.in-Query.is at c.in_ok-query.ensures) c.look.ensures
+
+pub returns : goal.returns
+returns c =
+    obeyed_some _ _ (rw c.in-Change.is at c.in_ok-query.ensures) c.apply.ensures
