@@ -9,18 +9,22 @@ use Rattle.model.specs.Answers.{code_number, Outcome}
 use Rattle.model.specs.Operations.{Entered, or_insert_call}
 use Rattle.model.specs.Batch.{BatchOutcome}
 use Rattle.model.specs.Codes.{Reading}
-use Rattle.links.specs.Answers.{code_of, outcome_of}
-use Rattle.links.specs.declared.types.Answer.{Answer}
+use Rattle.std.proofs.Common.{Result}
+use Rattle.links.specs.Outcomes.{outcome_of}
+use Rattle.links.specs.declared.types.Done.{Done}
+use Rattle.links.specs.declared.types.Key.{Key}
+use Rattle.links.specs.declared.types.Refusal.{Refusal}
 use Rattle.codes.specs.Reading.{Keyed}
-use Rattle.codes.specs.declared.types.Coded.{Coded}
 use Rattle.batch.specs.Batched.{batch_told}
-use Rattle.batch.specs.declared.types.Batched.{Batched}
 use Rattle.exports.specs.declared.types.Reply.{Reply}
+use Rattle.exports.specs.declared.types.BatchReply.{BatchReply}
+use Rattle.exports.specs.declared.types.LineKey.{LineKey}
 use Rattle.exports.specs.declared.types.Place.{Place}
-use Rattle.exports.specs.Told.{Says, Told, BatchTold, check_number, LineTold}
+use Rattle.exports.specs.Told.{Says, Counts, Keys, Told, BatchTold, check_number, LineTold}
 use Rattle.exports.specs.Places.{PlaceTold}
 
-pub call_told : {a : Answer} {r : Reply} {m : Lent} {o : Outcome} → Says a r → outcome_of a m ≡ o → Told r m o
+pub call_told : {a : Result Done Refusal} {r : Reply} {m : Lent} {o : Outcome} → Says a r → outcome_of a m ≡ o
+    → Told r m o
 call_told says is = record {
   code = says.code ∙ ap (λ (o : Outcome). code_number o.answer.code) is;
   probes = says.probes ∙ ap (λ (o : Outcome). o.answer.probes) is;
@@ -30,7 +34,7 @@ call_told says is = record {
 
 -- or_insert with an entry that was read from its numbers
 pub entered_told :
-    {a : Answer} {r : Reply} {m : Lent} (n : Lent) {e f : Entry} (s k : ℕ) →
+    {a : Result Done Refusal} {r : Reply} {m : Lent} (n : Lent) {e f : Entry} (s k : ℕ) →
     Says a r → e ≡ f → outcome_of a m ≡ or_insert_call e s k n → Told r m (or_insert_call f s k n)
 entered_told n s k says same is = call_told says (is ∙ ap (λ (e : Entry). or_insert_call e s k n) same)
 
@@ -38,13 +42,11 @@ pub entry_told_lem : {r : Place} {e f : Entered} → PlaceTold r e → e ≡ f �
 entry_told_lem {r} told same = rw same at told
 
 -- a batch
-pub batch_told_lem :
-    (a : Batched) {n : ℕ} {buffer : List ℕ} {m : Lent} {o : BatchOutcome} →
-    n ≡ code_number (code_of a.code) → batch_told a buffer m ≡ o →
-    BatchTold (record { code = n; count = a.count }) buffer m o
-batch_told_lem a says is = record {
-  code = says ∙ ap (λ (o : BatchOutcome). code_number o.code) is;
-  count = ap (λ (o : BatchOutcome). o.count) is;
+pub batch_told_lem : {a : Result ℕ Refusal} {r : BatchReply} {buffer : List ℕ} {m : Lent} {o : BatchOutcome}
+    → Counts a r → batch_told a buffer m ≡ o → BatchTold r buffer m o
+batch_told_lem counts is = record {
+  code = counts.code ∙ ap (λ (o : BatchOutcome). code_number o.code) is;
+  count = counts.count ∙ ap (λ (o : BatchOutcome). o.count) is;
   bytes = ap (λ (o : BatchOutcome). o.buffer) is;
   after = ap (λ (o : BatchOutcome). o.after) is;
 }
@@ -55,7 +57,6 @@ check_passed is passes = ap check_number (sym passes ∙ is)
 pub check_failed : {passed accepted : Bool} → passed ≡ accepted → passed ≡ false → 1 ≡ check_number accepted
 check_failed is fails = ap check_number (sym fails ∙ is)
 
-pub line_told :
-    {reading : Reading} {a : Coded} {n : ℕ} → Keyed reading a → n ≡ code_number (code_of a.code) →
-    LineTold (record { code = n; key = a.key.0 }) reading
-line_told keyed is = record { code = is ∙ ap code_number keyed.code; key = keyed.key }
+pub line_told : {reading : Reading} {a : Result Key Refusal} {r : LineKey} → Keyed reading a → Keys a r
+    → LineTold r reading
+line_told keyed keys = record { code = keys.code ∙ ap code_number keyed.code; key = keys.key ∙ keyed.key }

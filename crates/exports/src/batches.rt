@@ -4,6 +4,7 @@ ghost use Rattle.model.specs.Batch.{batch as batched};
 ghost use Rattle.exports.specs.Told.{BatchTold};
 
 use crate::types::BatchReply;
+use links::types::Lent;
 
 // Works command records one after another and writes an answer record for each; what lies past the last one stays.
 #[unsafe(no_mangle)]
@@ -21,10 +22,5 @@ pub extern "C" fn lichenbrooch_batch(
         (batched commands.now answers.old
         (lent left.old right.old pc.old key.old root.old)) }
 {
-    let whole = batch::batch(left, right, pc, key, root, commands, answers);
-    let code = whole.code;
-    BatchReply {
-        code: records::number_of(code) as u32,
-        count: whole.count,
-    }
+    BatchReply::from(batch::batch(Lent(left, right, pc, key, root), commands, answers))
 }

@@ -5,9 +5,9 @@ ghost use Rattle.model.specs.Operations.{perform, or_insert_call};
 ghost use Rattle.exports.specs.Told.{Told};
 ghost use Rattle.exports.specs.Places.{entry_in};
 
-use crate::replies::{entry_of, reply};
 use crate::types::{Place, Reply};
-use links::types::{Key, Slot};
+use descent::types::Entry;
+use links::types::{Key, Lent, Links, Slot};
 
 // Hangs a slot with its key, behind all keys that are not greater.
 #[unsafe(no_mangle)]
@@ -25,7 +25,7 @@ pub extern "C" fn lichenbrooch_insert(
         (perform (command.insert slot k)
         (lent left.old right.old pc.old key.old root.old)) }
 {
-    reply(index::insert(left, right, pc, key, root, Slot(slot), Key(k)))
+    Reply::from(index::insert(Lent(left, right, pc, key, root), Slot(slot), Key(k)))
 }
 
 // Operation 2, or_insert with a fresh entry: the slot that holds the key, or the new one.
@@ -44,7 +44,7 @@ pub extern "C" fn lichenbrooch_find_or_insert(
         (perform (command.or_insert slot k)
         (lent left.old right.old pc.old key.old root.old)) }
 {
-    reply(index::find_or_insert(left, right, pc, key, root, Slot(slot), Key(k)))
+    Reply::from(index::find_or_insert(Lent(left, right, pc, key, root), Slot(slot), Key(k)))
 }
 
 // The same with an entry at hand; Stale where `entry_for` would give another now.
@@ -64,13 +64,9 @@ pub extern "C" fn lichenbrooch_or_insert(
         (or_insert_call (entry_in entry) slot k
         (lent left.old right.old pc.old key.old root.old)) }
 {
-    reply(index::or_insert(
-        left,
-        right,
-        pc,
-        key,
-        root,
-        entry_of(entry),
+    Reply::from(index::or_insert(
+        Lent(left, right, pc, key, root),
+        Entry::from(entry),
         Slot(slot),
         Key(k),
     ))
@@ -91,7 +87,7 @@ pub extern "C" fn lichenbrooch_remove(
         (perform (command.remove position)
         (lent left.old right.old pc.old key.now root.old)) }
 {
-    reply(index::remove(left, right, pc, key, root, Slot(position)))
+    Reply::from(index::remove(Links(left, right, pc, root), key, Slot(position)))
 }
 
 // Hangs a slot with its key right behind a position; from 0 at the front.
@@ -111,12 +107,8 @@ pub extern "C" fn lichenbrooch_insert_after(
         (perform (command.insert_after position slot k)
         (lent left.old right.old pc.old key.old root.old)) }
 {
-    reply(index::insert_after(
-        left,
-        right,
-        pc,
-        key,
-        root,
+    Reply::from(index::insert_after(
+        Lent(left, right, pc, key, root),
         Slot(position),
         Slot(slot),
         Key(k),
@@ -140,12 +132,8 @@ pub extern "C" fn lichenbrooch_insert_before(
         (perform (command.insert_before position slot k)
         (lent left.old right.old pc.old key.old root.old)) }
 {
-    reply(index::insert_before(
-        left,
-        right,
-        pc,
-        key,
-        root,
+    Reply::from(index::insert_before(
+        Lent(left, right, pc, key, root),
         Slot(position),
         Slot(slot),
         Key(k),
@@ -169,12 +157,8 @@ pub extern "C" fn lichenbrooch_replace_with(
         (perform (command.replace_with position slot k)
         (lent left.old right.old pc.old key.old root.old)) }
 {
-    reply(index::replace_with(
-        left,
-        right,
-        pc,
-        key,
-        root,
+    Reply::from(index::replace_with(
+        Lent(left, right, pc, key, root),
         Slot(position),
         Slot(slot),
         Key(k),
@@ -195,5 +179,5 @@ pub extern "C" fn lichenbrooch_clear(
         (perform command.clear
         (lent left.old right.old pc.old key.now root.old)) }
 {
-    reply(index::clear(left, right, pc, key, root))
+    Reply::from(index::clear(Links(left, right, pc, root), key))
 }

@@ -9,13 +9,7 @@ use crate::types::{LineKey, LinePart};
 pub extern "C" fn lichenbrooch_code_key(line: &[u8]) -> LineKey
     ensures { LineTold result (read_line line.now) }
 {
-    let coded = codes::code_key(line);
-    let code = coded.code;
-    let key = coded.key;
-    LineKey {
-        code: records::number_of(code) as u32,
-        key: key.0,
-    }
+    LineKey::from(codes::code_key(line))
 }
 
 // Where the code lies in its line, behind the spaces at the start; its length is 0 where the line is refused.
@@ -23,10 +17,8 @@ pub extern "C" fn lichenbrooch_code_key(line: &[u8]) -> LineKey
 pub extern "C" fn lichenbrooch_code_part(line: &[u8]) -> LinePart
     ensures { PartTold result line.now }
 {
-    let start = codes::start_of(line);
-    let part = codes::code_part(line);
     LinePart {
-        start,
-        length: part.len(),
+        start: codes::start_of(line),
+        length: codes::code_part(line).len(),
     }
 }

@@ -7,9 +7,8 @@ ghost use Rattle.model.specs.Operations.{perform, entry_call};
 ghost use Rattle.exports.specs.Told.{Told, check_number};
 ghost use Rattle.exports.specs.Places.{PlaceTold};
 
-use crate::replies::{place_of, reply};
 use crate::types::{Place, Reply};
-use links::types::{Key, Slot};
+use links::types::{Key, Slot, View};
 
 // Whether the arrays are well formed, W1 to W6, as the number of a code: Done or Damaged.
 #[unsafe(no_mangle)]
@@ -23,11 +22,14 @@ pub extern "C" fn lichenbrooch_check(
     ensures { result ≡ check_number (accepts
         (lent left.now right.now pc.now key.now root)) }
 {
-    if index::check(left, right, pc, key, Slot(root)) {
-        0
-    } else {
-        1
-    }
+    let view = View {
+        left,
+        right,
+        pc,
+        key,
+        root: Slot(root),
+    };
+    if index::check(view) { 0 } else { 1 }
 }
 
 // The first slot with the key that a descent from the root meets, or 0.
@@ -45,7 +47,16 @@ pub extern "C" fn lichenbrooch_find(
         (perform (command.find k)
         (lent left.now right.now pc.now key.now root)) }
 {
-    reply(index::find(left, right, pc, key, Slot(root), Key(k)))
+    Reply::from(index::find(
+        View {
+            left,
+            right,
+            pc,
+            key,
+            root: Slot(root),
+        },
+        Key(k),
+    ))
 }
 
 // The first slot with a key from k on, or past it: kind 0 is Unbounded, 1 Included, 2 Excluded.
@@ -64,7 +75,17 @@ pub extern "C" fn lichenbrooch_lower_bound(
         (perform (command.lower_bound kind k)
         (lent left.now right.now pc.now key.now root)) }
 {
-    reply(index::lower_bound(left, right, pc, key, Slot(root), kind, Key(k)))
+    Reply::from(index::lower_bound(
+        View {
+            left,
+            right,
+            pc,
+            key,
+            root: Slot(root),
+        },
+        kind,
+        Key(k),
+    ))
 }
 
 // The last slot with a key up to k, or before it.
@@ -83,7 +104,17 @@ pub extern "C" fn lichenbrooch_upper_bound(
         (perform (command.upper_bound kind k)
         (lent left.now right.now pc.now key.now root)) }
 {
-    reply(index::upper_bound(left, right, pc, key, Slot(root), kind, Key(k)))
+    Reply::from(index::upper_bound(
+        View {
+            left,
+            right,
+            pc,
+            key,
+            root: Slot(root),
+        },
+        kind,
+        Key(k),
+    ))
 }
 
 // The slot after a position; from 0 the first.
@@ -101,7 +132,16 @@ pub extern "C" fn lichenbrooch_next(
         (perform (command.next position)
         (lent left.now right.now pc.now key.now root)) }
 {
-    reply(index::next(left, right, pc, key, Slot(root), Slot(position)))
+    Reply::from(index::next(
+        View {
+            left,
+            right,
+            pc,
+            key,
+            root: Slot(root),
+        },
+        Slot(position),
+    ))
 }
 
 // The slot before a position; from 0 the last.
@@ -119,7 +159,16 @@ pub extern "C" fn lichenbrooch_prev(
         (perform (command.prev position)
         (lent left.now right.now pc.now key.now root)) }
 {
-    reply(index::prev(left, right, pc, key, Slot(root), Slot(position)))
+    Reply::from(index::prev(
+        View {
+            left,
+            right,
+            pc,
+            key,
+            root: Slot(root),
+        },
+        Slot(position),
+    ))
 }
 
 // What there is for a key: the slot that holds it, or the empty place where it would hang.
@@ -135,5 +184,14 @@ pub extern "C" fn lichenbrooch_entry_for(
     ensures { PlaceTold result (entry_call k
         (lent left.now right.now pc.now key.now root)) }
 {
-    place_of(index::entry(left, right, pc, key, Slot(root), Key(k)))
+    Place::from(index::entry(
+        View {
+            left,
+            right,
+            pc,
+            key,
+            root: Slot(root),
+        },
+        Key(k),
+    ))
 }

@@ -12,303 +12,195 @@ ghost use Rattle.model.specs.Lent.{lent};
 ghost use Rattle.model.specs.Check.{check as accepts};
 ghost use Rattle.model.specs.Commands as command;
 ghost use Rattle.model.specs.Operations.{perform, entry_call, or_insert_call};
-ghost use Rattle.links.specs.Answers.{outcome_of};
+ghost use Rattle.links.specs.Bundles.{viewed, lent_in, lent_out, keyed_in, keyed_out};
+ghost use Rattle.links.specs.Outcomes.{outcome_of};
+ghost use Rattle.links.specs.Sides.{side_of};
 ghost use Rattle.descent.specs.Entries.{entry_told};
+ghost use Rattle.queries.specs.Queries.{bound_command, step_command};
+ghost use Rattle.changes.specs.Changes.{insert_next};
+ghost use Rattle.index.specs.Tests.{Tested};
 ghost use Rattle.index.specs.Found.{found_told};
 
-use descent::types::{Entry, InsertCursor};
-use links::types::{Answer, Code, Key, Slot};
-use types::Found;
+use descent::types::Entry;
+use links::types::{Answer, Key, Lent, Links, Refusal, Side, Slot, View};
 
 // Whether the arrays are well formed: W1 to W6.
-pub fn check(left: &[u32], right: &[u32], pc: &[u32], key: &[u64], root: Slot) -> bool
-    ensures { result ≡ accepts
-        (lent left.now right.now pc.now key.now root.0) }
+pub fn check(view: View) -> bool
+    ensures { result ≡ accepts (viewed view.entry) }
 {
-    wellformed::check(left, right, pc, key, root)
+    wellformed::check(view)
 }
 
 // The first slot with the key that a descent from the root meets, or 0.
-pub fn find(left: &[u32], right: &[u32], pc: &[u32], key: &[u64], root: Slot, k: Key) -> Answer
-    ensures { outcome_of result
-        (lent left.now right.now pc.now key.now root.0)
-        ≡ perform (command.find k.0)
-        (lent left.now right.now pc.now key.now root.0) }
+pub fn find(view: View, k: Key) -> Answer
+    ensures { outcome_of result (viewed view.entry) ≡ perform (command.find k.0) (viewed view.entry) }
 {
-    if !wellformed::check(left, right, pc, key, root) {
-        return refusals::refused(Code::Damaged);
-    }
-    queries::find(left, right, pc, key, root, k)
+    let tree = wellformed::checked(view)?;
+    queries::find(tree, k)
 }
 
-// The first slot with a key from k on, or past it: kind 0 is Unbounded, 1 Included, 2 Excluded.
-pub fn lower_bound(
-    left: &[u32],
-    right: &[u32],
-    pc: &[u32],
-    key: &[u64],
-    root: Slot,
-    kind: u32,
-    k: Key,
-) -> Answer
-    ensures { outcome_of result
-        (lent left.now right.now pc.now key.now root.0)
-        ≡ perform (command.lower_bound kind k.0)
-        (lent left.now right.now pc.now key.now root.0) }
+// Both bounds; kind 0 is Unbounded, 1 Included, 2 Excluded. It stays a number, since any other has to be answered by
+// BadRecord behind Damaged.
+fn bound(view: View, side: Side, kind: u32, k: Key) -> Answer
+    ensures { outcome_of result (viewed view.entry)
+        ≡ perform (bound_command (side_of side) kind k.0) (viewed view.entry) }
 {
-    if !wellformed::check(left, right, pc, key, root) {
-        return refusals::refused(Code::Damaged);
-    }
-    queries::lower_bound(left, right, pc, key, root, kind, k)
+    let tree = wellformed::checked(view)?;
+    queries::bound(tree, side, kind, k)
+}
+
+// The first slot with a key from k on, or past it.
+pub fn lower_bound(view: View, kind: u32, k: Key) -> Answer
+    ensures { outcome_of result (viewed view.entry) ≡ perform (command.lower_bound kind k.0) (viewed view.entry) }
+{
+    bound(view, Side::Left, kind, k)
 }
 
 // The last slot with a key up to k, or before it.
-pub fn upper_bound(
-    left: &[u32],
-    right: &[u32],
-    pc: &[u32],
-    key: &[u64],
-    root: Slot,
-    kind: u32,
-    k: Key,
-) -> Answer
-    ensures { outcome_of result
-        (lent left.now right.now pc.now key.now root.0)
-        ≡ perform (command.upper_bound kind k.0)
-        (lent left.now right.now pc.now key.now root.0) }
+pub fn upper_bound(view: View, kind: u32, k: Key) -> Answer
+    ensures { outcome_of result (viewed view.entry) ≡ perform (command.upper_bound kind k.0) (viewed view.entry) }
 {
-    if !wellformed::check(left, right, pc, key, root) {
-        return refusals::refused(Code::Damaged);
-    }
-    queries::upper_bound(left, right, pc, key, root, kind, k)
+    bound(view, Side::Right, kind, k)
+}
+
+// Both moves.
+fn step(view: View, side: Side, position: Slot) -> Answer
+    ensures { outcome_of result (viewed view.entry)
+        ≡ perform (step_command (side_of side) position.0) (viewed view.entry) }
+{
+    let tree = wellformed::checked(view)?;
+    queries::neighbour(tree, side, position)
 }
 
 // The slot after a position; from 0 the first.
-pub fn next(
-    left: &[u32],
-    right: &[u32],
-    pc: &[u32],
-    key: &[u64],
-    root: Slot,
-    position: Slot,
-) -> Answer
-    ensures { outcome_of result
-        (lent left.now right.now pc.now key.now root.0)
-        ≡ perform (command.next position.0)
-        (lent left.now right.now pc.now key.now root.0) }
+pub fn next(view: View, position: Slot) -> Answer
+    ensures { outcome_of result (viewed view.entry) ≡ perform (command.next position.0) (viewed view.entry) }
 {
-    if !wellformed::check(left, right, pc, key, root) {
-        return refusals::refused(Code::Damaged);
-    }
-    queries::next(left, right, pc, key, root, position)
+    step(view, Side::Right, position)
 }
 
 // The slot before a position; from 0 the last.
-pub fn prev(
-    left: &[u32],
-    right: &[u32],
-    pc: &[u32],
-    key: &[u64],
-    root: Slot,
-    position: Slot,
-) -> Answer
-    ensures { outcome_of result
-        (lent left.now right.now pc.now key.now root.0)
-        ≡ perform (command.prev position.0)
-        (lent left.now right.now pc.now key.now root.0) }
+pub fn prev(view: View, position: Slot) -> Answer
+    ensures { outcome_of result (viewed view.entry) ≡ perform (command.prev position.0) (viewed view.entry) }
 {
-    if !wellformed::check(left, right, pc, key, root) {
-        return refusals::refused(Code::Damaged);
-    }
-    queries::prev(left, right, pc, key, root, position)
+    step(view, Side::Left, position)
 }
 
 // What there is for a key: the slot that holds it, or the empty place where it would hang.
-pub fn entry(left: &[u32], right: &[u32], pc: &[u32], key: &[u64], root: Slot, k: Key) -> Found
-    ensures { found_told result ≡ entry_call k.0
-        (lent left.now right.now pc.now key.now root.0) }
+pub fn entry(view: View, k: Key) -> Result<Entry, Refusal>
+    ensures { found_told result ≡ entry_call k.0 (viewed view.entry) }
 {
-    if !wellformed::check(left, right, pc, key, root) {
-        return Found {
-            code: Code::Damaged,
-            entry: Entry::Vacant(InsertCursor {
-                parent: Slot(0),
-                on_left: false,
-            }),
-        };
-    }
-    let entry = queries::entry(left, right, pc, key, root, k);
-    Found {
-        code: Code::Done,
-        entry,
-    }
+    let tree = wellformed::checked(view)?;
+    Ok(queries::entry(tree, k))
+}
+
+// The check of what is lent to be changed, taken apart already: here it is put together to be read.
+fn test(left: &[u32], right: &[u32], pc: &[u32], key: &[u64], root: u32) -> Result<(), Refusal>
+    ensures { Tested (lent left.now right.now pc.now key.now root) result }
+{
+    wellformed::checked(View {
+        left,
+        right,
+        pc,
+        key,
+        root: Slot(root),
+    })?;
+    Ok(())
 }
 
 // Hangs a slot with its key, behind all keys that are not greater.
-pub fn insert(
-    left: &mut [u32],
-    right: &mut [u32],
-    pc: &mut [u32],
-    key: &mut [u64],
-    root: &mut u32,
-    slot: Slot,
-    k: Key,
-) -> Answer
-    ensures { outcome_of result
-        (lent left.new right.new pc.new key.new root.new)
-        ≡ perform (command.insert slot.0 k.0)
-        (lent left.old right.old pc.old key.old root.old) }
+pub fn insert(lent: Lent, slot: Slot, k: Key) -> Answer
+    ensures { outcome_of result (lent_out lent.exit) ≡ perform (command.insert slot.0 k.0) (lent_in lent.entry) }
 {
-    if !wellformed::check(left, right, pc, key, Slot(*root)) {
-        return refusals::refused(Code::Damaged);
-    }
-    changes::insert(left, right, pc, key, root, slot, k)
+    let Lent(left, right, pc, key, root) = lent;
+    test(left, right, pc, key, *root)?;
+    changes::insert(Lent(left, right, pc, key, root), slot, k)
 }
 
 // Operation 2, or_insert with a fresh entry: the slot that holds the key, or the new one.
-pub fn find_or_insert(
-    left: &mut [u32],
-    right: &mut [u32],
-    pc: &mut [u32],
-    key: &mut [u64],
-    root: &mut u32,
-    slot: Slot,
-    k: Key,
-) -> Answer
-    ensures { outcome_of result
-        (lent left.new right.new pc.new key.new root.new)
-        ≡ perform (command.or_insert slot.0 k.0)
-        (lent left.old right.old pc.old key.old root.old) }
+pub fn find_or_insert(lent: Lent, slot: Slot, k: Key) -> Answer
+    ensures { outcome_of result (lent_out lent.exit) ≡ perform (command.or_insert slot.0 k.0) (lent_in lent.entry) }
 {
-    if !wellformed::check(left, right, pc, key, Slot(*root)) {
-        return refusals::refused(Code::Damaged);
-    }
-    changes::or_insert(left, right, pc, key, root, slot, k)
+    let Lent(left, right, pc, key, root) = lent;
+    test(left, right, pc, key, *root)?;
+    changes::or_insert(Lent(left, right, pc, key, root), slot, k)
 }
 
 // The same with an entry at hand; Stale where `entry` would give another now.
-pub fn or_insert(
-    left: &mut [u32],
-    right: &mut [u32],
-    pc: &mut [u32],
-    key: &mut [u64],
-    root: &mut u32,
-    entry: Entry,
-    slot: Slot,
-    k: Key,
-) -> Answer
-    ensures { outcome_of result
-        (lent left.new right.new pc.new key.new root.new)
-        ≡ or_insert_call (entry_told entry) slot.0 k.0
-        (lent left.old right.old pc.old key.old root.old) }
+pub fn or_insert(lent: Lent, entry: Entry, slot: Slot, k: Key) -> Answer
+    ensures { outcome_of result (lent_out lent.exit)
+        ≡ or_insert_call (entry_told entry) slot.0 k.0 (lent_in lent.entry) }
 {
-    if !wellformed::check(left, right, pc, key, Slot(*root)) {
-        return refusals::refused(Code::Damaged);
-    }
-    changes::or_insert_at(left, right, pc, key, root, entry, slot, k)
+    let Lent(left, right, pc, key, root) = lent;
+    test(left, right, pc, key, *root)?;
+    changes::or_insert_at(Lent(left, right, pc, key, root), entry, slot, k)
 }
 
 // Takes a slot out and answers the one after it; its key stays.
-pub fn remove(
-    left: &mut [u32],
-    right: &mut [u32],
-    pc: &mut [u32],
-    key: &[u64],
-    root: &mut u32,
-    position: Slot,
-) -> Answer
-    ensures { outcome_of result
-        (lent left.new right.new pc.new key.now root.new)
-        ≡ perform (command.remove position.0)
-        (lent left.old right.old pc.old key.now root.old) }
+pub fn remove(tree: Links, key: &[u64], position: Slot) -> Answer
+    ensures { outcome_of result (keyed_out tree.exit key.now)
+        ≡ perform (command.remove position.0) (keyed_in tree.entry key.now) }
 {
-    if !wellformed::check(left, right, pc, key, Slot(*root)) {
-        return refusals::refused(Code::Damaged);
-    }
-    changes::remove(left, right, pc, key, root, position)
+    let Links(left, right, pc, root) = tree;
+    test(left, right, pc, key, *root)?;
+    changes::remove(Links(left, right, pc, root), key, position)
+}
+
+// Both insertions beside a position.
+fn insert_beside(lent: Lent, side: Side, position: Slot, slot: Slot, k: Key) -> Answer
+    ensures { outcome_of result (lent_out lent.exit)
+        ≡ perform (insert_next (side_of side) position.0 slot.0 k.0) (lent_in lent.entry) }
+{
+    let Lent(left, right, pc, key, root) = lent;
+    test(left, right, pc, key, *root)?;
+    changes::insert_beside(Lent(left, right, pc, key, root), side, position, slot, k)
 }
 
 // Hangs a slot with its key right behind a position; from 0 at the front.
-pub fn insert_after(
-    left: &mut [u32],
-    right: &mut [u32],
-    pc: &mut [u32],
-    key: &mut [u64],
-    root: &mut u32,
-    position: Slot,
-    slot: Slot,
-    k: Key,
-) -> Answer
-    ensures { outcome_of result
-        (lent left.new right.new pc.new key.new root.new)
-        ≡ perform (command.insert_after position.0 slot.0 k.0)
-        (lent left.old right.old pc.old key.old root.old) }
+pub fn insert_after(lent: Lent, position: Slot, slot: Slot, k: Key) -> Answer
+    ensures { outcome_of result (lent_out lent.exit)
+        ≡ perform (command.insert_after position.0 slot.0 k.0) (lent_in lent.entry) }
 {
-    if !wellformed::check(left, right, pc, key, Slot(*root)) {
-        return refusals::refused(Code::Damaged);
-    }
-    changes::insert_after(left, right, pc, key, root, position, slot, k)
+    let Lent(left, right, pc, key, root) = lent;
+    insert_beside(
+        Lent(left, right, pc, key, root),
+        Side::Right,
+        position,
+        slot,
+        k,
+    )
 }
 
 // Hangs a slot with its key right before a position; from 0 at the back.
-pub fn insert_before(
-    left: &mut [u32],
-    right: &mut [u32],
-    pc: &mut [u32],
-    key: &mut [u64],
-    root: &mut u32,
-    position: Slot,
-    slot: Slot,
-    k: Key,
-) -> Answer
-    ensures { outcome_of result
-        (lent left.new right.new pc.new key.new root.new)
-        ≡ perform (command.insert_before position.0 slot.0 k.0)
-        (lent left.old right.old pc.old key.old root.old) }
+pub fn insert_before(lent: Lent, position: Slot, slot: Slot, k: Key) -> Answer
+    ensures { outcome_of result (lent_out lent.exit)
+        ≡ perform (command.insert_before position.0 slot.0 k.0) (lent_in lent.entry) }
 {
-    if !wellformed::check(left, right, pc, key, Slot(*root)) {
-        return refusals::refused(Code::Damaged);
-    }
-    changes::insert_before(left, right, pc, key, root, position, slot, k)
+    let Lent(left, right, pc, key, root) = lent;
+    insert_beside(
+        Lent(left, right, pc, key, root),
+        Side::Left,
+        position,
+        slot,
+        k,
+    )
 }
 
 // Puts a slot with its key in the place of another, which is released.
-pub fn replace_with(
-    left: &mut [u32],
-    right: &mut [u32],
-    pc: &mut [u32],
-    key: &mut [u64],
-    root: &mut u32,
-    position: Slot,
-    slot: Slot,
-    k: Key,
-) -> Answer
-    ensures { outcome_of result
-        (lent left.new right.new pc.new key.new root.new)
-        ≡ perform (command.replace_with position.0 slot.0 k.0)
-        (lent left.old right.old pc.old key.old root.old) }
+pub fn replace_with(lent: Lent, position: Slot, slot: Slot, k: Key) -> Answer
+    ensures { outcome_of result (lent_out lent.exit)
+        ≡ perform (command.replace_with position.0 slot.0 k.0) (lent_in lent.entry) }
 {
-    if !wellformed::check(left, right, pc, key, Slot(*root)) {
-        return refusals::refused(Code::Damaged);
-    }
-    changes::replace_with(left, right, pc, key, root, position, slot, k)
+    let Lent(left, right, pc, key, root) = lent;
+    test(left, right, pc, key, *root)?;
+    changes::replace_with(Lent(left, right, pc, key, root), position, slot, k)
 }
 
 // All slots become unlinked; the keys stay.
-pub fn clear(
-    left: &mut [u32],
-    right: &mut [u32],
-    pc: &mut [u32],
-    key: &[u64],
-    root: &mut u32,
-) -> Answer
-    ensures { outcome_of result
-        (lent left.new right.new pc.new key.now root.new)
-        ≡ perform command.clear
-        (lent left.old right.old pc.old key.now root.old) }
+pub fn clear(tree: Links, key: &[u64]) -> Answer
+    ensures { outcome_of result (keyed_out tree.exit key.now) ≡ perform command.clear (keyed_in tree.entry key.now) }
 {
-    if !wellformed::check(left, right, pc, key, Slot(*root)) {
-        return refusals::refused(Code::Damaged);
-    }
-    changes::clear(left, right, pc, key, root)
+    let Links(left, right, pc, root) = tree;
+    test(left, right, pc, key, *root)?;
+    changes::clear(Links(left, right, pc, root), key)
 }

@@ -1,15 +1,12 @@
-use Rattle.std.proofs.Common.{rules}
-use Rattle.index.proofs.Calls.{checked_well, found_damaged, found_entry}
+use Rattle.std.proofs.Common.{rules, ◌≡◌, Err}
+use Rattle.index.proofs.Calls.{found_damaged, looked_up}
 use Rattle.index.proofs.entry.Goals as goal
 
-pub returns-then-not-check : goal.returns-then-not-check
-returns-then-not-check c =
-    search (rules, found_damaged)
-
-pub entry-entry-requires : goal.entry-entry-requires
-entry-entry-requires c =
-    search (rules, checked_well)
+pub returns-in_err-tree : goal.returns-in_err-tree
+returns-in_err-tree c =
+    let told : c.from_residual.result ≡ Err c.in_err-tree.field-0.0 = search rules in
+    rw told (found_damaged _ c.in_err-tree.ensures _)
 
 pub returns : goal.returns
 returns c =
-    search (rules, found_entry)
+    looked_up _ c.in_ok-tree.tree c.in_ok-tree.ensures _ c.entry.ensures

@@ -1,15 +1,12 @@
-use Rattle.std.proofs.Common.{rules}
-use Rattle.index.proofs.Calls.{checked_well, performed_damaged, performed}
+use Rattle.std.proofs.Common.{rules, ◌≡◌, Err}
+use Rattle.index.proofs.Calls.{performed_damaged, looked}
 use Rattle.index.proofs.find.Goals as goal
 
-pub returns-then-not-check : goal.returns-then-not-check
-returns-then-not-check c =
-    search (rules, performed_damaged)
-
-pub find-requires : goal.find-requires
-find-requires c =
-    search (rules, checked_well)
+pub returns-in_err-tree : goal.returns-in_err-tree
+returns-in_err-tree c =
+    let told : c.from_residual.result ≡ Err c.in_err-tree.field-0.0 = search rules in
+    rw told (performed_damaged _ c.in_err-tree.ensures _)
 
 pub returns : goal.returns
 returns c =
-    search (rules, performed)
+    looked _ c.in_ok-tree.tree c.in_ok-tree.ensures _ _ c.find.ensures

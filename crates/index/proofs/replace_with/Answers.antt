@@ -1,14 +1,16 @@
-use Rattle.index.proofs.Calls.{checked_well, performed_damaged, performed}
+use Rattle.std.proofs.Common.{rules, ◌≡◌, Err}
+use Rattle.index.proofs.Calls.{performed_damaged, checked_well, performed}
 use Rattle.index.proofs.replace_with.Goals as goal
 
-pub returns-then-not-check : goal.returns-then-not-check
-returns-then-not-check c =
-    performed_damaged _ c.check.ensures _ c.if-not-check.true c.refused.ensures
+pub returns-in_err-test : goal.returns-in_err-test
+returns-in_err-test c =
+    let told : c.from_residual.result ≡ Err c.in_err-test.field-0.0 = search rules in
+    rw told (performed_damaged _ c.in_err-test.ensures _)
 
 pub replace_with-requires : goal.replace_with-requires
 replace_with-requires c =
-    checked_well _ c.check.ensures c.if-not-check.false
+    checked_well _ c.in_ok-test.ensures
 
 pub returns : goal.returns
 returns c =
-    performed _ c.check.ensures _ c.if-not-check.false c.replace_with.ensures
+    performed _ c.in_ok-test.ensures _ c.replace_with.ensures

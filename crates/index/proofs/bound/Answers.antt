@@ -1,0 +1,12 @@
+use Rattle.std.proofs.Common.{rules, ◌≡◌, Err}
+use Rattle.index.proofs.Calls.{performed_damaged, looked}
+use Rattle.index.proofs.bound.Goals as goal
+
+pub returns-in_err-tree : goal.returns-in_err-tree
+returns-in_err-tree c =
+    let told : c.from_residual.result ≡ Err c.in_err-tree.field-0.0 = search rules in
+    rw told (performed_damaged _ c.in_err-tree.ensures _)
+
+pub returns : goal.returns
+returns c =
+    looked _ c.in_ok-tree.tree c.in_ok-tree.ensures _ _ c.bound.ensures
