@@ -1,4 +1,5 @@
 -- The model tells the code's answers apart: a promise about `refusal_code` or `told` settles the refusal or the answer.
+use Prim.Native.Nat.{ℕ}
 use mathlib.Core.Bool.{false}
 use mathlib.Core.Path.{◌≡◌, refl, sym, ap, ◌∙◌}
 use Rattle.std.proofs.Common.{Result, Ok, Err}
@@ -24,6 +25,11 @@ case_of a model.bad_length = Err BadLength
 case_of a model.short = Err Short
 case_of a model.bad_code = Err BadCode
 
+-- the refusal in a result, else another
+abbrev error_or : {A : Type 0} → Refusal → Result A Refusal → Refusal
+error_or r (Ok a) = r
+error_or r (Err why) = why
+
 pub case_of_code : {A : Type 0} (a : A) (r : Refusal) → case_of a (refusal_code r) ≡ Err r
 case_of_code a Damaged = refl
 case_of_code a BadSlot = refl
@@ -36,6 +42,11 @@ case_of_code a BadRecord = refl
 case_of_code a BadLength = refl
 case_of_code a Short = refl
 case_of_code a BadCode = refl
+
+-- One code, one refusal.
+pub code_one : (a b : Refusal) → refusal_code a ≡ refusal_code b → a ≡ b
+code_one a b e =
+    ap (λ (r : Result ℕ Refusal). error_or a r) (sym (case_of_code 0 a) ∙ ap (case_of 0) e ∙ case_of_code 0 b)
 
 -- the answer that stands for one of the model
 abbrev answer_of : model.Answer → Result Done Refusal

@@ -1,12 +1,16 @@
 -- What is behind the references of a bundle: as a function is handed it, and as it leaves it. At the exit of a function
 -- a bundle is the tuple of its references.
-use Rattle.std.specs.Prelude.{ℕ, List, length}
+use Rattle.std.specs.Prelude.{ℕ, List, length, ◌≡◌, Result}
 use Rattle.std.specs.Borrow.{MutBor}
 use Rattle.model.specs.Lent as model
 use Rattle.theory.specs.Links as theory
 use Rattle.theory.specs.Links.{links}
 use Rattle.theory.specs.Places as places
 use Rattle.model.specs.Tree.{Side}
+use Rattle.model.specs.Answers.{Outcome}
+use Rattle.links.specs.Outcomes.{outcome_of}
+use Rattle.links.specs.declared.types.Done.{Done}
+use Rattle.links.specs.declared.types.Refusal.{Refusal}
 use Rattle.links.specs.declared.types.Links.{Links}
 use Rattle.links.specs.declared.types.Lent.{Lent}
 use Rattle.links.specs.declared.types.Nodes.{Nodes}
@@ -65,3 +69,17 @@ lent_in m = model.lent m.0.now m.1.now m.2.now m.3.now m.4.now
 
 abbrev pub lent_out : LentLeft → model.Lent
 lent_out e = model.lent e.0.now e.1.0.now e.1.1.0.now e.1.1.1.0.now e.1.1.1.1.0.now
+
+-- ---- what a call does: its answer and what is lent after it are an outcome of what was lent
+
+-- of all that is lent, to be changed
+abbrev pub Does : (model.Lent → Outcome) → Lent → Result Done Refusal → LentLeft → Type 0
+Does f m r e = outcome_of r (lent_out e) ≡ f (lent_in m)
+
+-- of the links, beside keys that stay
+abbrev pub Relinks : (model.Lent → Outcome) → Links → (keys : List ℕ) → Result Done Refusal → LinksLeft → Type 0
+Relinks f k keys r e = outcome_of r (keyed_out e keys) ≡ f (keyed_in k keys)
+
+-- of what is only read
+abbrev pub Tells : (model.Lent → Outcome) → View → Result Done Refusal → Type 0
+Tells f v r = outcome_of r (viewed v) ≡ f (viewed v)

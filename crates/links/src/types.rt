@@ -69,9 +69,9 @@ impl Side {
 }
 
 // The links that a caller lends, to be changed: the near child numbers and the far ones, each slot's parent and colour
-// in one number, and the root. Near is left, or right where a function works on the mirrored tree: `Links(far, near, ..)`.
-// Each has a lifetime of its own, so that one call after another can borrow all of them; and they are not named, so
-// that they are taken apart and put together in a line.
+// in one number, and the root. Near is left, or right where a function works on the mirrored tree, which is
+// `Links(far, near, ..)`. Each has a lifetime of its own, so that one call after another can borrow all of them; and
+// they are not named, so that they are taken apart and put together in a line.
 #[derive(Drop)]
 pub struct Links<'n, 'f, 'p, 't>(
     pub &'n mut [u32],
@@ -89,7 +89,7 @@ pub struct Nodes<'n, 'f, 'p> {
 }
 
 // All that a caller lends, to be read: the child numbers, each slot's parent and colour in one number, the keys, and
-// the root.
+// the root. It is written out where it is made: behind a function that makes it the proofs no longer see the arrays.
 #[derive(Clone, Copy)]
 pub struct View<'a> {
     pub left: &'a [u32],

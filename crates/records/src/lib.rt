@@ -52,8 +52,9 @@ fn put_bytes(bytes: &mut [u8], at: usize, code: u8, probes: u32, slot: Slot)
     requires { at + answer_size ≤ length bytes.old }
     ensures { Lays at answer_size (answer_in code probes slot.0) bytes.old bytes.new }
 {
-    let [low, high] = ((slot.0 % 65536) as u16).to_le_bytes();
-    bytes[at..at + ANSWER].copy_from_slice(&[0x41, 0x4E, code, (probes % 256) as u8, low, high]);
+    let [low, high, ..] = slot.0.to_le_bytes();
+    let [probes, ..] = probes.to_le_bytes();
+    bytes[at..at + ANSWER].copy_from_slice(&[0x41, 0x4E, code, probes, low, high]);
 }
 
 // Writes an answer record from a place on.
