@@ -5,7 +5,7 @@ use mathlib.Core.Bool.{Bool, true, false, false≢true}
 use lib.Dec.{eqb}
 use mathlib.Core.List.{List, []}
 use mathlib.Core.Logic.{◌⊎◌, inl, inr, ⊎_elim, by_cases}
-use mathlib.Core.Option.{none, some, some-ne-none}
+use mathlib.Core.Option.{Option, none, some, some-ne-none}
 use native.Mathlib.Nat.{pow-le-pow_right}
 use native.Mathlib.Numerals.{add-one}
 use native.Mathlib.Decide.{dec_lt}
@@ -22,12 +22,13 @@ use Rattle.theory.proofs.CodeValues.{value_character}
 use Rattle.theory.proofs.CodeParts.{place_within, place_past, key_small, read_good, read_bad}
 use Rattle.theory.proofs.Codes.{good_reading_lem, bad_reading_lem}
 use Rattle.std.specs.Prelude as std
-use Rattle.std.specs.Prelude.{Some, None, Result, Ok, Err}
+use Rattle.std.specs.Prelude.{Some, None, Result, Ok, Err, is_ok}
+use Rattle.std.specs.Option.{ok_or}
 use Rattle.links.specs.declared.types.Key.{Key}
 use Rattle.links.specs.declared.types.Refusal.{Refusal}
 use Rattle.links.specs.declared.types.Refusal.TheVariants.{BadCode}
-use Rattle.codes.specs.Reading.{digit_of, place_of, code_of, Keyed}
-use Rattle.codes.proofs.Told.{refused}
+use Rattle.codes.specs.Reading.{digit_of, place_of, Keyed}
+use Rattle.codes.proofs.Told.{passed, refused}
 
 -- ---- a place
 
@@ -72,33 +73,43 @@ pub none_yet : (s : List ℕ) → Sofar s 0 0
 unfolding key_up_to
 none_yet s = record { within = omega arith; is = refl; spelled = λ k h. absurd (omega arith) }
 
+-- What a place has instead of a refusal is its value.
+had : {v : ℕ} (d : std.Option ℕ) → ok_or d BadCode ≡ Ok v → digit_of d ≡ some v
+had (Some x) e = ap digit_or e
+  where
+    digit_or : Result ℕ Refusal → Option ℕ
+    digit_or (Ok v) = some v
+    digit_or (Err _) = none
+had None e = absurd (false≢true (ap is_ok e))
+
 -- One place more, with its value.
-module _ {s : List ℕ} {sum i v : ℕ} {d : std.Option ℕ}
-    (p : Sofar s sum i) (h : i < code_limit) (e : digit_of d ≡ place_of s i) (q : d ≡ Some v) where
-  has_value : place_of s i ≡ some v
-  has_value = sym e ∙ ap digit_of q
+module _ {s : List ℕ} {sum i v : ℕ} (d : std.Option ℕ) {r : Result ℕ Refusal}
+    (p : Sofar s sum i) (h : i < code_limit) (e : digit_of d ≡ place_of s i) (o : r ≡ ok_or d BadCode) (q : r ≡ Ok v)
+  where
+    has_value : place_of s i ≡ some v
+    has_value = sym e ∙ had d (sym o ∙ q)
 
-  next_key : sum * 37 + v ≡ key_up_to s (i + 1)
-  unfolding key_up_to
-  next_key = rw (add-one, place_value_lem s i, has_value, p.is)
+    next_key : sum * 37 + v ≡ key_up_to s (i + 1)
+    unfolding key_up_to
+    next_key = rw (add-one, place_value_lem s i, has_value, p.is)
 
-  pub one_more : Sofar s (sum * 37 + v) (i + 1)
-  one_more =
-      record {
-        within = omega arith;
-        is = next_key;
-        spelled =
-            below_more (λ k. k < length s → Character (get_or s k 0)) i p.spelled (place_character s i v has_value);
-      }
+    pub one_more : Sofar s (sum * 37 + v) (i + 1)
+    one_more =
+        record {
+          within = omega arith;
+          is = next_key;
+          spelled =
+              below_more (λ k. k < length s → Character (get_or s k 0)) i p.spelled (place_character s i v has_value);
+        }
 
-  -- All the places of a code fit into 64 bits.
-  pub sum_fits : Fits w64 (sum * 37 + v)
-  sum_fits =
-      let most : 37 ^ (i + 1) ≤ 37 ^ code_limit = pow-le-pow_right (omega arith) one_more.within in
-      record { fits = rw next_key (omega (arith, key_small s (i + 1))) }
+    -- All the places of a code fit into 64 bits.
+    pub sum_fits : Fits w64 (sum * 37 + v)
+    sum_fits =
+        let most : 37 ^ (i + 1) ≤ 37 ^ code_limit = pow-le-pow_right (omega arith) one_more.within in
+        record { fits = rw next_key (omega (arith, key_small s (i + 1))) }
 
-  pub product_fits : Fits w64 (sum * 37)
-  product_fits = record { fits = omega (arith, sum_fits.fits) }
+    pub product_fits : Fits w64 (sum * 37)
+    product_fits = record { fits = omega (arith, sum_fits.fits) }
 
 -- ---- the answer
 
@@ -112,9 +123,19 @@ module _ (s : List ℕ) where
       (empty ≡ true) ⊎ ((empty ≡ false) × (code_limit < length s)) → Keyed (read_part s) (Err BadCode)
   keyed_length e h = keyed_bad (⊎_elim (λ q. inl (eqb-true (length s) 0 (sym e ∙ q))) (λ q. inr (inl q.1)) h)
 
-  pub keyed_stray : (i : ℕ) {d : std.Option ℕ} → digit_of d ≡ place_of s i → d ≡ None →
-      Keyed (read_part s) (Err BadCode)
-  keyed_stray i e q = keyed_bad (inr (inr (place_stray s i (sym e ∙ ap digit_of q))))
+  -- a place without a value
+  stray : (i : ℕ) {why : Refusal} (d : std.Option ℕ) → digit_of d ≡ place_of s i → ok_or d BadCode ≡ Err why →
+      Keyed (read_part s) (Err why)
+  stray i (Some v) e q = absurd (false≢true (sym (ap is_ok q)))
+  stray i None e q = rw (ap key_or q) at (keyed_bad (inr (inr (place_stray s i (sym e)))))
+    where
+      key_or : Result ℕ Refusal → Result Key Refusal
+      key_or (Ok v) = Ok (record { 0 = v })
+      key_or (Err why) = Err why
+
+  pub keyed_stray : (i : ℕ) (d : std.Option ℕ) {why : Refusal} {r : Result ℕ Refusal} {a : Result Key Refusal} →
+      digit_of d ≡ place_of s i → r ≡ ok_or d BadCode → r ≡ Err why → a ≡ Err why → Keyed (read_part s) a
+  keyed_stray i d e o q t = rw t (stray i d e (sym o ∙ q))
 
 -- After the last place the sum is the key.
 pub keyed_done :
@@ -136,10 +157,12 @@ module _
   unfolding read_line
   keyed_line = rw e at k
 
-  pub part_done : (q : Key) → r ≡ Ok q → part ≡ (read_line l).part
-  part_done q f =
-      e ∙ sym (ap (λ (x : Reading). x.part) (good_reading_lem l (sym keyed_line.code ∙ ap code_of f)))
+  pub part_done : {ok : Bool} → ok ≡ is_ok r → ok ≡ true → part ≡ (read_line l).part
+  part_done o t =
+      e ∙ sym (ap (λ (x : Reading). x.part) (good_reading_lem l (sym keyed_line.code ∙ passed r (sym o ∙ t))))
 
-  pub part_refused : (q : Refusal) → r ≡ Err q → [] ≡ (read_line l).part
-  part_refused q f =
-      sym (ap (λ (x : Reading). x.part) (bad_reading_lem l (λ d. refused q (sym (ap code_of f) ∙ keyed_line.code ∙ d))))
+  pub part_refused : {ok : Bool} → ok ≡ is_ok r → ok ≡ false → [] ≡ (read_line l).part
+  part_refused o f =
+      sym
+      (ap (λ (x : Reading). x.part)
+      (bad_reading_lem l (λ d. refused r (sym o ∙ f) (keyed_line.code ∙ d))))

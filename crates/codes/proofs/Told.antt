@@ -1,14 +1,13 @@
 -- The model tells the answers of a line apart: a promise about the code and the key settles the answer.
 use Prim.Native.Nat.{ℕ}
 use mathlib.Core.Path.{◌≡◌, refl, sym, ap, ◌∙◌}
-use mathlib.Core.Bool.{false≢true}
+use mathlib.Core.Bool.{true, false, false≢true}
 use Rattle.std.specs.Prelude.{Result, Ok, Err, is_ok}
 use Rattle.model.specs.Answers as model
 use Rattle.links.specs.declared.types.Key.{Key}
 use Rattle.links.specs.declared.types.Refusal.{Refusal}
 use Rattle.links.specs.declared.types.Refusal.TheVariants.{Damaged, BadSlot, AlreadyLinked, NotLinked, OutOfOrder}
 use Rattle.links.specs.declared.types.Refusal.TheVariants.{NullCursor, Stale, BadRecord, BadLength, Short, BadCode}
-use Rattle.links.specs.Outcomes.{refusal_code}
 use Rattle.codes.specs.Reading.{code_of, key_of}
 
 -- the answer that stands for a code and a key
@@ -45,6 +44,10 @@ pub answer_one : (a b : Result Key Refusal) → code_of a ≡ code_of b → key_
 answer_one a b c k =
     sym (answer_is a) ∙ ap (λ (x : model.Code). answer_of x (key_of a)) c ∙ ap (answer_of (code_of b)) k ∙ answer_is b
 
--- A refusal's code isn't done.
-pub refused : (r : Refusal) → refusal_code r ≡ model.done → ⊥
-refused r e = false≢true (ap is_ok (sym (answer_is (Err r)) ∙ ap (λ (x : model.Code). answer_of x 0) e))
+-- The code of an answer is done where there is a key, and only there.
+pub passed : (r : Result Key Refusal) → is_ok r ≡ true → code_of r ≡ model.done
+passed (Ok k) e = refl
+passed (Err why) e = absurd (false≢true e)
+
+pub refused : (r : Result Key Refusal) → is_ok r ≡ false → code_of r ≡ model.done → ⊥
+refused r f e = false≢true (sym f ∙ ap is_ok (sym (answer_is r) ∙ ap (λ (x : model.Code). answer_of x (key_of r)) e))

@@ -46,9 +46,7 @@ fn key_of_part(part: &[u8]) -> Result<Key, Refusal>
     }
     let mut sum = 0;
     for i in 0..PLACES {
-        let Some(value) = place_at(part, i) else {
-            return Err(Refusal::BadCode);
-        };
+        let value = place_at(part, i).ok_or(Refusal::BadCode)?;
         sum = sum * BASE + value;
     }
     Ok(Key(sum))
@@ -88,8 +86,9 @@ pub fn code_part(line: &[u8]) -> &[u8]
     ensures { result.now ≡ (read_line line.now).part }
 {
     let part = trim(line);
-    match key_of_part(part) {
-        Ok(_) => part,
-        Err(_) => &part[..0],
+    if key_of_part(part).is_ok() {
+        part
+    } else {
+        &part[..0]
     }
 }

@@ -52,17 +52,9 @@ pub position_node : {needed : Bool} {pc : List ℕ} {p : ℕ} {code : Code} → 
 unfolding position_test
 position_node {p = p} apart t = record { is = λ a same. t.is a same ∙ rw (ne_eqb p 0 apart) }
 
--- ---- the new slot: 0, past the last slot, linked, free
+-- ---- the new slot: linked, free
 
 module _ {pc : List ℕ} {s : ℕ} where
-  pub slot_none : s ≡ 0 → SlotTested pc s bad_slot
-  unfolding slot_test
-  slot_none e = record { is = λ a _. rw (eq-eqb s 0 e) }
-
-  pub slot_past : (s ≡ 0 → ⊥) → length pc < s → SlotTested pc s bad_slot
-  unfolding slot_test capacity
-  slot_past apart over = record { is = λ a same. rw (ne_eqb s 0 apart, same, lt-ltb (length pc) s over) }
-
   slot_at : {linked : Bool} → (s ≡ 0 → ⊥) → s ≤ length pc → GotLinked pc s linked
       → SlotTested pc s (choose linked (λ _. already_linked) (λ _. done))
   unfolding slot_test capacity

@@ -40,10 +40,7 @@ pub fn test_node(pc: &[u32], position: Slot) -> Result<(), Refusal>
 pub fn test_new(pc: &[u32], slot: Slot) -> Result<(), Refusal>
     ensures { SlotTested pc.now slot.0 (verdict result) }
 {
-    if slot.0 == 0 {
-        return Err(Refusal::BadSlot);
-    }
-    if pc.len() < slot.0 as usize {
+    if slot.0 == 0 || pc.len() < slot.0 as usize {
         return Err(Refusal::BadSlot);
     }
     if links::is_linked(pc, slot) {
@@ -58,7 +55,8 @@ fn up_to(key: &[u64], slot: Slot, k: Key) -> bool
     requires { slot.0 ≤ length key.now }
     ensures { result ≡ up_to (at key.now) slot.0 k.0 }
 {
-    slot.0 == 0 || links::key_of(key, slot) <= k
+    slot.or_none()
+        .is_none_or(|slot| links::key_of(key, slot) <= k)
 }
 
 // Whether the key of a slot is at least k; 0 is no slot.
@@ -66,7 +64,8 @@ fn from_on(key: &[u64], slot: Slot, k: Key) -> bool
     requires { slot.0 ≤ length key.now }
     ensures { result ≡ from_on (at key.now) slot.0 k.0 }
 {
-    slot.0 == 0 || k <= links::key_of(key, slot)
+    slot.or_none()
+        .is_none_or(|slot| k <= links::key_of(key, slot))
 }
 
 // Whether a key may stand between two slots, either of them 0.

@@ -1,10 +1,10 @@
 -- The children of a slot: what their checks are asked, and what the counts of both come to.
 use Prim.Native.Nat.{ℕ, suc, ◌+◌, ◌-◌, ◌/◌, ◌≤◌, ◌<◌}
 use native.Mathlib.Omega.{arith}
-use mathlib.Core.Bool.{true, false, not}
+use mathlib.Core.Bool.{true}
 use mathlib.Core.List.{List}
 use mathlib.Core.Path.{◌≡◌, ◌∙◌}
-use Rattle.std.specs.Prelude.{Some, None}
+use Rattle.std.specs.Prelude.{Option, Some, None}
 use Rattle.model.specs.Limits.{depth_limit}
 use Rattle.model.specs.Tree.{Color, red, black}
 use Rattle.model.specs.Lent.{arrays_of, capacity}
@@ -55,24 +55,24 @@ module _ {l r p k : List ℕ} {depth s : ℕ} (h : RedPre l r p k depth s) where
     unfolding black_child
     none_came lo hi e = rw (kind.black, e)
 
-  module _ {low high : ℕ} {node : Node} (is : NodeAt l r p k s low high node) where
-    pub red_bad : not node.good ≡ true →
+  pub red_fits : (one other low key high : ℕ) {x y : ℕ} → RedChild one low key x → RedChild other key high y →
+      x + y < 4294967296
+  red_fits one other low key high left right =
+      let few : depth / 2 - 1 ≤ depth_limit / 2 - 1 = omega (arith, h.deep) in
+      let small = black_child_fits (arrays_of l r p k) (depth / 2 - 1) few s in
+      omega (arith, left, right, small one low key, small other key high)
+
+  module _ {low high : ℕ} {found : Option Node} (is : NodeAt l r p k s low high found) where
+    pub red_bad : found ≡ None →
         0 ≡ red_ends (arrays_of l r p k) (black_ends (depth / 2 - 1) (arrays_of l r p k)) s low high
     unfolding red_ends
     red_bad bad = under_bad is _ bad
 
-    module _ {x y : ℕ} (left : RedChild node.left.0 low node.key.0 x) (right : RedChild node.right.0 node.key.0 high y)
-      where
-        pub red_fits : x + y < 4294967296
-        red_fits =
-            let few : depth / 2 - 1 ≤ depth_limit / 2 - 1 = omega (arith, h.deep) in
-            let small = black_child_fits (arrays_of l r p k) (depth / 2 - 1) few s in
-            omega (arith, small node.left.0 low node.key.0, small node.right.0 node.key.0 high)
-
-        pub red_sum : {sum : ℕ} → not node.good ≡ false → sum ≡ sum_of x y →
-            sum ≡ red_ends (arrays_of l r p k) (black_ends (depth / 2 - 1) (arrays_of l r p k)) s low high
-        unfolding red_ends
-        red_sum good sum = under_good is _ good left right sum
+    pub red_sum : {node : Node} {x y sum : ℕ} → found ≡ Some node → RedChild node.left.0 low node.key.0 x →
+        RedChild node.right.0 node.key.0 high y → sum ≡ sum_of x y →
+        sum ≡ red_ends (arrays_of l r p k) (black_ends (depth / 2 - 1) (arrays_of l r p k)) s low high
+    unfolding red_ends
+    red_sum good left right sum = under_good is _ good left right sum
 
 -- ---- under a black slot that isn't the last one of a way
 
@@ -117,21 +117,20 @@ module _ {l r p k : List ℕ} {depth s : ℕ} (h : DeepPre l r p k depth s) wher
     unfolding any_child black_child
     other_came lo hi e = rw (kind.red, kind.black, e)
 
-  module _ {low high : ℕ} {node : Node} (is : NodeAt l r p k s low high node) where
-    pub black_bad : not node.good ≡ true → 0 ≡ black_ends (depth / 2 - 1) (arrays_of l r p k) s low high
+  pub black_fits : (one other low key high : ℕ) {x y : ℕ} → BlackChild one low key x → BlackChild other key high y →
+      x + y < 4294967296
+  black_fits one other low key high left right =
+      let few : (depth - 2) / 2 - 1 ≤ depth_limit / 2 - 1 = omega (arith, h.pre.deep) in
+      let small = any_child_fits (arrays_of l r p k) ((depth - 2) / 2 - 1) few s in
+      omega (arith, left, right, small one low key, small other key high)
+
+  module _ {low high : ℕ} {found : Option Node} (is : NodeAt l r p k s low high found) where
+    pub black_bad : found ≡ None → 0 ≡ black_ends (depth / 2 - 1) (arrays_of l r p k) s low high
     unfolding black_ends
     black_bad bad = rw (black_level h) (under_bad is _ bad)
 
-    module _
-        {x y : ℕ} (left : BlackChild node.left.0 low node.key.0 x) (right : BlackChild node.right.0 node.key.0 high y)
-      where
-        pub black_fits : x + y < 4294967296
-        black_fits =
-            let few : (depth - 2) / 2 - 1 ≤ depth_limit / 2 - 1 = omega (arith, h.pre.deep) in
-            let small = any_child_fits (arrays_of l r p k) ((depth - 2) / 2 - 1) few s in
-            omega (arith, small node.left.0 low node.key.0, small node.right.0 node.key.0 high)
-
-        pub black_sum : {sum : ℕ} → not node.good ≡ false → sum ≡ sum_of x y →
-            sum ≡ black_ends (depth / 2 - 1) (arrays_of l r p k) s low high
-        unfolding black_ends
-        black_sum good sum = rw (black_level h) (under_good is _ good left right sum)
+    pub black_sum : {node : Node} {x y sum : ℕ} → found ≡ Some node → BlackChild node.left.0 low node.key.0 x →
+        BlackChild node.right.0 node.key.0 high y → sum ≡ sum_of x y →
+        sum ≡ black_ends (depth / 2 - 1) (arrays_of l r p k) s low high
+    unfolding black_ends
+    black_sum good left right sum = rw (black_level h) (under_good is _ good left right sum)

@@ -37,11 +37,11 @@ one_turn l p (suc turns) s some low high =
     rw (lt-ltb 0 s low, le-leb s (length p) high, q)
 
 module _ {l p : List ℕ} {root here blacks done : ℕ} (h : Descending l p root here blacks done) where
-  pub down_step : {i : ℕ} → done < depth_limit → (here ≡ 0 → ⊥) → i ≡ here - 1 → i < length p →
-      Descending l p root (get_or l i 0) (blacks + get_or p i 0 % 2) (done + 1)
-  down_step some low is high =
+  pub down_step : {i mark : ℕ} → done < depth_limit → (here ≡ 0 → ⊥) → i ≡ here - 1 → i < length p →
+      mark ≡ get_or p i 0 → Descending l p root (get_or l i 0) (blacks + mark % 2) (done + 1)
+  down_step some low is high e =
       let q : depth_limit - (done + 1) ≡ depth_limit - done - 1 = omega arith in
-      rw is (record {
+      rw (e, is) (record {
         turned = omega (arith, h.turned);
         all = rw q (omega
             (arith, h.all, one_turn l p (depth_limit - done) here (omega arith) (omega arith) (omega arith)));

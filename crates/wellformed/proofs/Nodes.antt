@@ -3,12 +3,12 @@ use Prim.Native.Nat.{ℕ, ◌+◌, ◌*◌}
 use native.Mathlib.Omega.{arith}
 use mathlib.Core.Bool.{Bool, true, false, not, ◌&&◌, ◌||◌, true≢false, false≢true}
 use mathlib.Core.List.{List}
-use mathlib.Core.Path.{◌≡◌, refl, sym, ◌∙◌}
+use mathlib.Core.Path.{◌≡◌, refl}
 use lib.Dec.{eqb}
-use borrow.Author.Tests.{not-true, not-false}
+use Rattle.std.specs.Prelude.{Option, Some, None}
 use Rattle.model.specs.Branch.{choose, pick}
 use Rattle.model.specs.Tree.{lft, rgt, red}
-use Rattle.model.specs.Lent.{Arrays, arrays_of, child_of, pc_of, key_of, parent_color}
+use Rattle.model.specs.Lent.{at, Arrays, arrays_of, child_of, pc_of, key_of, parent_color}
 use Rattle.model.specs.Check.{differ}
 use Rattle.theory.specs.Quick.{is_between, is_node, sum_of, under, is_tip}
 use Rattle.wellformed.specs.Checks.{NodeAt}
@@ -44,9 +44,10 @@ sum_some x y = go (eqb x 0) (eqb y 0)
 
 -- node_at
 pub node_good : (low high : ℕ) {x y z l r k : ℕ} {apart fits : Bool} → x ≡ l → y ≡ r → z ≡ k →
-    apart ≡ differ x y → fits ≡ is_between low z high → (apart && fits) ≡ is_node l r k low high
+    apart ≡ differ x y → fits ≡ is_between low z high → {good : Bool} → (apart && fits) ≡ good →
+    is_node l r k low high ≡ good
 unfolding is_node
-node_good low high left right key e f = rw (← left, ← right, ← key, e, f)
+node_good low high left right key e f is = rw (← left, ← right, ← key, ← e, ← f) is
 
 -- is_red_end
 pub tip_good : (a : Arrays) (p s low high : ℕ) {mark x y z : ℕ} {fits : Bool} →
@@ -57,17 +58,21 @@ tip_good a p s low high i left right key e =
     let z : parent_color p red ≡ 2 * p = omega arith in
     rw (z, ← i, ← left, ← right, ← key, e)
 
-module _ {l r p k : List ℕ} {s low high : ℕ} {node : Node} (h : NodeAt l r p k s low high node) where
+module _ {l r p k : List ℕ} {s low high : ℕ} {found : Option Node} (h : NodeAt l r p k s low high found) where
   -- a slot that doesn't pass
-  pub under_bad : (ask : (child low high : ℕ) → ℕ) → not node.good ≡ true →
-      0 ≡ under (arrays_of l r p k) s low high ask
+  pub under_bad : (ask : (child low high : ℕ) → ℕ) → found ≡ None → 0 ≡ under (arrays_of l r p k) s low high ask
   unfolding under child_of key_of
-  under_bad ask e = rw (sym h.good ∙ not-true node.good e)
+  under_bad ask e = rw (none (rw e at h))
+    where
+      none : NodeAt l r p k s low high None → is_node (at l s) (at r s) (at k s) low high ≡ false
+      none q = q.is
 
   -- both sides of one that does
-  pub under_good : {x y sum : ℕ} (ask : (child low high : ℕ) → ℕ) → not node.good ≡ false →
+  pub under_good : {node : Node} {x y sum : ℕ} (ask : (child low high : ℕ) → ℕ) → found ≡ Some node →
       x ≡ ask node.left.0 low node.key.0 → y ≡ ask node.right.0 node.key.0 high → sum ≡ sum_of x y →
       sum ≡ under (arrays_of l r p k) s low high ask
   unfolding under child_of key_of
-  under_good ask e left right sum =
-      rw (sym h.good ∙ not-false node.good e, ← h.left, ← h.right, ← h.key, sum, left, right)
+  under_good {node} ask e left right sum =
+      let found : NodeAt l r p k s low high (Some node) = rw e at h in
+      let is = found.is in
+      rw (is.good, ← is.left, ← is.right, ← is.key, sum, left, right)

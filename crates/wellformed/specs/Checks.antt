@@ -44,12 +44,20 @@ pub record NodePre (l r p k : List ℕ) (s : ℕ) : Type 0 where
   pub right : SlotOf r s
   pub key : SlotOf k s
 
--- what a slot holds, and whether it passes
-pub record NodeAt (l r p k : List ℕ) (s low high : ℕ) (node : Node) : Type 0 where
+-- what a slot that passes holds
+pub record Holds (l r p k : List ℕ) (s low high : ℕ) (node : Node) : Type 0 where
   pub left : node.left.0 ≡ at l s
   pub right : node.right.0 ≡ at r s
   pub key : node.key.0 ≡ at k s
-  pub good : node.good ≡ is_node (at l s) (at r s) (at k s) low high
+  pub good : is_node (at l s) (at r s) (at k s) low high ≡ true
+
+-- a node where the slot passes, else none
+abbrev pub Found : (l r p k : List ℕ) (s low high : ℕ) → Option Node → Type 0
+Found l r p k s low high (Some node) = Holds l r p k s low high node
+Found l r p k s low high None = is_node (at l s) (at r s) (at k s) low high ≡ false
+
+pub record NodeAt (l r p k : List ℕ) (s low high : ℕ) (found : Option Node) : Type 0 where
+  pub is : Found l r p k s low high found
 
 -- ---- the walk
 

@@ -19,10 +19,10 @@ pub fn blacks_down(view: &View) -> u32
             break;
         }
         let at = here.index();
-        if view.pc.len() <= at {
+        let Some(mark) = view.pc.get(at) else {
             break;
-        }
-        blacks += view.pc[at] % 2;
+        };
+        blacks += mark % 2;
         here = Slot(view.left[at]);
     }
     blacks
@@ -35,18 +35,16 @@ pub fn is_stray(mark: u32, left: u32, right: u32) -> bool
     (mark == 0) & ((left != 0) | (right != 0))
 }
 
-// The number of linked slots, and of unlinked ones with a child. By index, since three arrays are read at once, and
-// pairs of pairs from two zips are no plainer.
+// The number of linked slots, and of unlinked ones with a child.
 pub fn tally(view: &View) -> Tally
     requires { Seen SameLengths view.now }
     ensures { Seen Tallied view.now result }
 {
     let mut linked = 0;
     let mut strays = 0;
-    for i in 0..view.pc.len() {
-        let mark = view.pc[i];
-        linked += u32::from(mark != 0);
-        strays += u32::from(is_stray(mark, view.left[i], view.right[i]));
+    for ((mark, left), right) in view.pc.iter().zip(view.left).zip(view.right) {
+        linked += u32::from(*mark != 0);
+        strays += u32::from(is_stray(*mark, *left, *right));
     }
     Tally { linked, strays }
 }

@@ -1,6 +1,6 @@
 // The whole check: whether lent arrays are well formed, W1 to W6, whatever they hold. A count is that of the missing
 // children of a subtree, one more than its nodes, and 0 where something is wrong: counts as options were tried, and the
-// check was slower by a seventh. `Quick` of theory has each count as a definition.
+// check was slower by a sixth. `Quick` of theory has each count as a definition.
 #![tactic(auto)]
 
 pub mod counts;
@@ -73,10 +73,9 @@ fn last_check(view: &View, slot: Slot, low: Key, high: Key) -> u32
     requires { Seen Ready view.now slot.0 }
     ensures { result ≡ black_ends 0 (arrays_in view.now) slot.0 low.0 high.0 }
 {
-    let node = slots::node_at(view, slot, low, high);
-    if !node.good {
+    let Some(node) = slots::node_at(view, slot, low, high) else {
         return 0;
-    }
+    };
     let x = end_check(view, slot, node.left, low, node.key);
     let y = end_check(view, slot, node.right, node.key, high);
     sum_of(x, y)
@@ -104,10 +103,9 @@ fn red_check(view: &View, depth: u32, slot: Slot, low: Key, high: Key) -> u32
         (black_ends (depth / 2 - 1) (arrays_in view.now))
         slot.0 low.0 high.0 }
 {
-    let node = slots::node_at(view, slot, low, high);
-    if !node.good {
+    let Some(node) = slots::node_at(view, slot, low, high) else {
         return 0;
-    }
+    };
     let x = child_of_red(view, depth, slot, node.left, low, node.key);
     let y = child_of_red(view, depth, slot, node.right, node.key, high);
     sum_of(x, y)
@@ -138,10 +136,9 @@ fn black_check(view: &View, depth: u32, slot: Slot, low: Key, high: Key) -> u32
     if depth <= 2 {
         return last_check(view, slot, low, high);
     }
-    let node = slots::node_at(view, slot, low, high);
-    if !node.good {
+    let Some(node) = slots::node_at(view, slot, low, high) else {
         return 0;
-    }
+    };
     let x = child_of_black(view, depth, slot, node.left, low, node.key);
     let y = child_of_black(view, depth, slot, node.right, node.key, high);
     sum_of(x, y)

@@ -1,4 +1,4 @@
-// One slot of the check: what a child number names, and a node's children and key with what is right or wrong in them.
+// One slot of the check: what a child number names, and a node's children and key.
 ghost use Rattle.std.specs.Prelude.{◌≡◌, ◌≤◌};
 ghost use Rattle.model.specs.Limits.{capacity_limit};
 ghost use Rattle.model.specs.Check.{differ as apart};
@@ -17,11 +17,9 @@ pub fn kin_of(pc: &[u32], parent: Slot, slot: Slot) -> Option<Color>
     if slot.0 == 0 {
         return None;
     }
-    let at = slot.index();
-    if pc.len() <= at {
+    let Some(&mark) = pc.get(slot.index()) else {
         return None;
-    }
-    let mark = pc[at];
+    };
     if mark == 2 * parent.0 {
         return Some(Color::Red);
     }
@@ -46,8 +44,8 @@ pub fn between(low: Key, k: Key, high: Key) -> bool
     (low <= k) & (k <= high)
 }
 
-// A slot's children and key, with what is right or wrong in them.
-pub fn node_at(view: &View, slot: Slot, low: Key, high: Key) -> Node
+// A slot's children and key, if the children differ, or are both 0, and the key lies between the two.
+pub fn node_at(view: &View, slot: Slot, low: Key, high: Key) -> Option<Node>
     requires { Seen NodePre view.now slot.0 }
     ensures { Seen NodeAt view.now slot.0 low.0 high.0 result }
 {
@@ -56,10 +54,9 @@ pub fn node_at(view: &View, slot: Slot, low: Key, high: Key) -> Node
     let key = links::key_of(view.key, slot);
     let apart = differ(left, right);
     let fits = between(low, key, high);
-    Node {
-        good: apart & fits,
-        left,
-        right,
-        key,
+    if apart & fits {
+        Some(Node { left, right, key })
+    } else {
+        None
     }
 }

@@ -4,8 +4,6 @@ use links::types::{Key, Slot};
 // A slot's children and key.
 #[derive(Clone, Copy)]
 pub struct Node {
-    // Whether the children differ, or are both 0, and the key lies between the two that were asked.
-    pub good: bool,
     pub left: Slot,
     pub right: Slot,
     pub key: Key,

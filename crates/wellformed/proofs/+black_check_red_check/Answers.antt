@@ -6,8 +6,8 @@ use Rattle.wellformed.proofs.+black_check_red_check.Goals as goal
 
 -- ---- under a black slot
 
-pub black_check-returns-then-not-node : goal.black_check-returns-then-not-node
-black_check-returns-then-not-node t c = search (rules, black_bad)
+pub black_check-returns-in_default : goal.black_check-returns-in_default
+black_check-returns-in_default t c = search (rules, black_bad)
 
 pub black_check-sum_of-requires : goal.black_check-sum_of-requires
 black_check-sum_of-requires t c = search (rules, black_fits)
@@ -47,8 +47,8 @@ child_of_red-returns-in_default t c = search (rules, no_red)
 pub child_of_red-returns-in_default-2 : goal.child_of_red-returns-in_default-2
 child_of_red-returns-in_default-2 t c = search (rules, none_came)
 
-pub red_check-returns-then-not-node : goal.red_check-returns-then-not-node
-red_check-returns-then-not-node t c = search (rules, red_bad)
+pub red_check-returns-in_default : goal.red_check-returns-in_default
+red_check-returns-in_default t c = search (rules, red_bad)
 
 pub red_check-sum_of-requires : goal.red_check-sum_of-requires
 red_check-sum_of-requires t c = search (rules, red_fits)
