@@ -2,7 +2,6 @@
 use Prim.Native.Nat.{ℕ, ◌+◌, ◌<◌}
 use mathlib.Core.Bool.{Bool, true, false}
 use mathlib.Core.List.{List, [], ◌∷◌, map}
-use mathlib.Core.Logic.{◌≢◌}
 use mathlib.Core.Path.{◌≡◌, refl, ap, sym, ◌∙◌}
 use native.Mathlib.Omega.{arith}
 use lib.Dec.{eqb}
@@ -45,6 +44,10 @@ pub record Downward (S : Tree → Tree → List Frame → Type 0) (t : Tree) (he
   pub count_is : n ≡ length w
   pub same : S t place w
 
+-- where it stands there is the slot x
+abbrev pub Reached : (here x : ℕ) → Type 0
+Reached here x = (0 < x) × (x ≡ here)
+
 -- It has come to the node x, seen from the side d.
 pub record Meeting (d : Side) (S : Tree → Tree → List Frame → Type 0) (t : Tree) (x n : ℕ) (w : List Frame)
     : Type 0 where
@@ -77,13 +80,13 @@ sends {step} {x} d e t c near far w same = record { is = sym (turn step d c near
 
 module _ {S : Tree → Tree → List Frame → Type 0} {t : Tree} where
   -- at a slot
-  pub meeting : {here last n : ℕ} {w : List Frame} (d : Side) → Downward S t here last n w → here ≢ 0
-      → Meeting d S t here n w
-  meeting {here} {last} {n} {w} d s some =
+  pub meeting : {here x last n : ℕ} {w : List Frame} (d : Side) → Downward S t here last n w → Reached here x
+      → Meeting d S t x n w
+  meeting {here} {x} {last} {n} {w} d s some =
       by_side d
-      (λ u. plug u w ≡ t → here ≡ top_of u → S t u w → Meeting d S t here n w)
-      (λ whole is same. absurd (some is))
-      (λ c near x far whole is same. rw is (record {
+      (λ u. plug u w ≡ t → x ≡ top_of u → S t u w → Meeting d S t x n w)
+      (λ whole is same. let none : x ≡ 0 = is in absurd (omega (arith, some.0, none)))
+      (λ c near y far whole is same. rw is (record {
         color = c;
         near = near;
         far = far;
@@ -91,7 +94,7 @@ module _ {S : Tree → Tree → List Frame → Type 0} {t : Tree} where
         count_is = s.count_is;
         same = same;
       }))
-      s.place s.whole s.here_is s.same
+      s.place s.whole (some.1 ∙ s.here_is) s.same
 
   -- one step down to the side
   pub moved : {x n next : ℕ} {w : List Frame} (d : Side) (s : Meeting d S t x n w) → Leads S x d
@@ -168,9 +171,9 @@ pub record Stepped (S : Tree → Tree → List Frame → Type 0) (t : Tree) (goe
 
 module _ {left right pc : List ℕ} {root C : ℕ} {t : Tree} (k : Drawn lft left right pc root C t)
     {S : Tree → Tree → List Frame → Type 0} where
-  pub stepped : {here last n next : ℕ} {w : List Frame} (goes_left : Bool) → Downward S t here last n w → here ≢ 0
-      → Leads S here (side_if goes_left) → next ≡ pick goes_left (at left here) (at right here)
-      → Stepped S t goes_left next here (n + 1) w
+  pub stepped : {here x last n next : ℕ} {w : List Frame} (goes_left : Bool) → Downward S t here last n w
+      → Reached here x → Leads S x (side_if goes_left) → next ≡ pick goes_left (at left x) (at right x)
+      → Stepped S t goes_left next x (n + 1) w
   stepped true s some goes is =
       let m = meeting lft s some in
       record { color = m.color; sibling = m.far; stands = moved lft m goes (is ∙ spot_near (met_spot k m)) }

@@ -16,7 +16,7 @@ use Rattle.theory.proofs.Descents.{probes_way}
 use Rattle.links.specs.Reads.{Got}
 use Rattle.descent.specs.declared.types.Met.{Met}
 use Rattle.descent.specs.Searches.{Searchable, childless, last_node, MetAt, met_of, FoundKey}
-use Rattle.descent.proofs.Downward.{By, meeting, ended, last_node_empty, turn_if, none_picked}
+use Rattle.descent.proofs.Downward.{By, Reached, meeting, ended, last_node_empty, turn_if, none_picked}
 use Rattle.descent.proofs.Keeping.{Keeping, keep_key, keep_on}
 
 -- ---- its comparison
@@ -64,36 +64,36 @@ module _ {left right key : List ℕ} {root k : ℕ} where
     top = s.top;
   }
 
-  module _ {here last n : ℕ} (v : Searchable left right key root)
-      (s : Keeping left right key root (By (find_step (at key) k)) here last n) (some : here ≢ 0)
-      {held : ℕ} (held-is : held ≡ at key here) where
+  module _ {here x last n : ℕ} (v : Searchable left right key root)
+      (s : Keeping left right key root (By (find_step (at key) k)) here last n) (some : Reached here x)
+      {held : ℕ} (held-is : held ≡ at key x) where
     -- it halts at an equal key
-    pub found_here : held ≡ k → FoundKey left right key root k (met_of here here (n + 1))
+    pub found_here : held ≡ k → FoundKey left right key root k (met_of here x (n + 1))
     unfolding last_node path
     found_here e = record {
       is = λ u.
           let z = s.each u in
           let m = meeting lft z.stands some in
-          let x = node m.color m.near here m.far in
-          find_ending (at key) k u.tree x z.way (sym m.same.is ∙ rw (find_halts key k here held held-is e))
+          let y = node m.color m.near x m.far in
+          find_ending (at key) k u.tree y z.way (sym m.same.is ∙ rw (find_halts key k x held held-is e))
           (record {
-            slot_is = refl;
+            slot_is = sym some.1;
             last_is = refl;
-            probes_is = omega (arith, m.count_is, probes_way (landing x z.way));
+            probes_is = omega (arith, m.count_is, probes_way (landing y z.way));
           });
       top = (keep_key v s some).top;
     }
 
-    module _ {a b next : ℕ} {less : Bool} (got-left : Got left here a) (got-right : Got right here b) (apart : held ≢ k)
+    module _ {a b next : ℕ} {less : Bool} (got-left : Got left x a) (got-right : Got right x b) (apart : held ≢ k)
         (less-is : less ≡ ltb k held) (next_is : next ≡ pick less a b) where
-      goes : find_step (at key) k here ≡ left_if less
-      goes = rw less-is (find_goes key k here held held-is apart)
+      goes : find_step (at key) k x ≡ left_if less
+      goes = rw less-is (find_goes key k x held held-is apart)
 
       -- one step down
-      pub find_on : Keeping left right key root (By (find_step (at key) k)) next here (n + 1)
+      pub find_on : Keeping left right key root (By (find_step (at key) k)) next x (n + 1)
       find_on = keep_on v s some less (turn_if less goes) got-left got-right next_is
 
       -- below a leaf it ends at once
       pub found_leaf : {none : Bool} → none ≡ childless a b → none ≡ true
-          → FoundKey left right key root k (met_of next here (n + 1))
+          → FoundKey left right key root k (met_of next x (n + 1))
       found_leaf is taken = found_none find_on (none_picked less a b (sym is ∙ taken) next_is)

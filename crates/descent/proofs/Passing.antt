@@ -2,7 +2,6 @@
 use Prim.Native.Nat.{ℕ, ◌+◌}
 use mathlib.Core.Bool.{Bool, true, false}
 use mathlib.Core.List.{List}
-use mathlib.Core.Logic.{◌≢◌}
 use mathlib.Core.Path.{◌≡◌, refl, sym, ◌∙◌}
 use native.Mathlib.Omega.{arith}
 use Rattle.model.specs.Branch.{choose, pick}
@@ -13,7 +12,7 @@ use Rattle.theory.proofs.Descents.{probes_way}
 use Rattle.links.specs.Reads.{Got}
 use Rattle.descent.specs.declared.types.Path.{Path}
 use Rattle.descent.specs.Searches.{Searchable, childless, over_step, FoundPath}
-use Rattle.descent.proofs.Downward.{By, by_start, ended, last_node_empty, side_if, turn_if, none_picked}
+use Rattle.descent.proofs.Downward.{By, Reached, by_start, ended, last_node_empty, side_if, turn_if, none_picked}
 use Rattle.descent.proofs.Keeping.{Keeping, keep_start, keep_on}
 
 module _ (left right key : List ℕ) (root : ℕ) (over : ℕ → Bool) where
@@ -57,25 +56,25 @@ module _ {left right key : List ℕ} {root : ℕ} {over : ℕ → Bool} where
     top = s.keeping.top;
   }
 
-  module _ {here last under above n : ℕ} (v : Searchable left right key root)
-      (s : Passing left right key root over here last under above n) (some : here ≢ 0)
-      {held a b next under' above' : ℕ} {goes_left : Bool} (held-is : held ≡ at key here)
-      (got-left : Got left here a) (got-right : Got right here b) (goes : goes_left ≡ over held)
-      (over_is : above' ≡ pick goes_left here above) (under_is : under' ≡ pick goes_left under here)
+  module _ {here x last under above n : ℕ} (v : Searchable left right key root)
+      (s : Passing left right key root over here last under above n) (some : Reached here x)
+      {held a b next under' above' : ℕ} {goes_left : Bool} (held-is : held ≡ at key x)
+      (got-left : Got left x a) (got-right : Got right x b) (goes : goes_left ≡ over held)
+      (over_is : above' ≡ pick goes_left x above) (under_is : under' ≡ pick goes_left under x)
       (next_is : next ≡ pick goes_left a b) where
     -- one step down
-    pub pass_on : Passing left right key root over next here under' above' (n + 1)
+    pub pass_on : Passing left right key root over next x under' above' (n + 1)
     unfolding over_step keep_on
     pass_on = record {
       keeping = keep_on v s.keeping some goes_left (turn_if goes_left (rw (goes, held-is))) got-left got-right next_is;
-      under_is = λ u. under_is ∙ rw (s.under_is u) (turn_under goes_left here _);
-      over_is = λ u. over_is ∙ rw (s.over_is u) (turn_over_lem goes_left here _);
+      under_is = λ u. under_is ∙ rw (s.under_is u) (turn_under goes_left x _);
+      over_is = λ u. over_is ∙ rw (s.over_is u) (turn_over_lem goes_left x _);
     }
 
     -- below a leaf it ends at once
     pub passed_leaf : {none : Bool} → none ≡ childless a b → none ≡ true
         → FoundPath left right key root over (record {
-          last = record { 0 = here };
+          last = record { 0 = x };
           under = record { 0 = under' };
           over = record { 0 = above' };
           probes = n + 1;

@@ -1,7 +1,6 @@
 -- The loop of edge: it goes down one side of the tree, to the end.
 use Prim.Native.Nat.{ℕ, ◌+◌, ◌-◌, ◌≤◌, ◌<◌}
 use mathlib.Core.List.{List, [], ◌∷◌}
-use mathlib.Core.Logic.{◌≢◌}
 use mathlib.Core.Path.{◌≡◌, refl, ap, sym, ◌∙◌}
 use native.Mathlib.Omega.{arith}
 use lib.ListN.{length}
@@ -12,8 +11,8 @@ use Rattle.theory.proofs.Places.{bounded, spot_low, spot_high, spot_near}
 use Rattle.theory.proofs.Descents.{probes_way}
 use Rattle.links.specs.Reads.{GetPre, Got}
 use Rattle.descent.specs.Searches.{Sloping, toward, met_of, FoundEdge}
-use Rattle.descent.proofs.Downward.{By, by_start, Meeting, sends, start, meeting, moved, met_spot, met_deep, ended}
-use Rattle.descent.proofs.Downward.{last_node_empty}
+use Rattle.descent.proofs.Downward.{By, by_start, Meeting, Reached, sends, start, meeting, moved, met_spot, met_deep}
+use Rattle.descent.proofs.Downward.{ended, last_node_empty}
 use Rattle.descent.proofs.Keeping.{Coming}
 
 -- It has come down, on whatever side of whatever tree the links are; and the nodes are few.
@@ -47,27 +46,27 @@ slid s none = record {
       };
 }
 
-module _ {near : List ℕ} {root here last n : ℕ} (v : Sloping near root) (s : Sliding near root here last n)
-    (some : here ≢ 0) where
-  met : (u : Sloping near root) → Meeting u.side (By (λ _. toward u.side)) u.tree here n (s.each u).way
+module _ {near : List ℕ} {root here x last n : ℕ} (v : Sloping near root) (s : Sliding near root here last n)
+    (some : Reached here x) where
+  met : (u : Sloping near root) → Meeting u.side (By (λ _. toward u.side)) u.tree x n (s.each u).way
   met u = meeting u.side (s.each u).stands some
 
   -- at a slot its child may be read
-  pub slide_get : GetPre near here
-  slide_get = let x = met_spot v.drawing (met v) in
-      record { pos = spot_low x; top = spot_high x; below = (bounded v.drawing).near_below }
+  pub slide_get : GetPre near x
+  slide_get = let z = met_spot v.drawing (met v) in
+      record { pos = spot_low z; top = spot_high z; below = (bounded v.drawing).near_below }
 
   -- it has looked at fewer nodes than there are slots
   pub slide_less : length near - (n + 1) < length near - n
   slide_less = omega (arith, met_deep v.drawing (met v))
 
   -- one step down
-  pub slide_on : {next : ℕ} → Got near here next → Sliding near root next here (n + 1)
+  pub slide_on : {next : ℕ} → Got near x next → Sliding near root next x (n + 1)
   slide_on got = record {
     each = λ u.
         let m = met u in
         record {
-          way = frame u.side m.color here m.far ∷ (s.each u).way;
+          way = frame u.side m.color x m.far ∷ (s.each u).way;
           stands = moved u.side m (sends u.side refl) (got.is ∙ spot_near (met_spot u.drawing m));
         };
     few = omega (arith, met_deep v.drawing (met v), (bounded v.drawing).small);

@@ -21,7 +21,8 @@ fn is_leaf(first: Slot, second: Slot) -> bool
 }
 
 // Goes left at a node whose key passes the test, else right, until a child is missing. Both children are read at once,
-// so that the next step waits for no branch; a leaf ends it early.
+// so that the next step waits for no branch; a leaf ends it early. The picks take 0 for none, where an Option would
+// need a branch; the probes are counted by hand, since their number is part of the answer.
 pub fn path<F: Fn(Key) -> bool>(view: View, goes_left: F) -> Path
     requires tree { Seen Searchable view }
     requires calls { F.IsAlwaysCallable goes_left }
@@ -32,15 +33,15 @@ pub fn path<F: Fn(Key) -> bool>(view: View, goes_left: F) -> Path
     let mut under = Slot(0);
     let mut over = Slot(0);
     let mut probes = 0u32;
-    while here.0 != 0 {
-        let held = links::key_of(view.key, here);
-        let first = links::get(view.left, here);
-        let second = links::get(view.right, here);
+    while let Some(node) = here.or_none() {
+        let held = links::key_of(view.key, node);
+        let first = links::get(view.left, node);
+        let second = links::get(view.right, node);
         let leftward = goes_left(held);
-        last = here;
+        last = node;
         probes += 1;
-        over = links::pick(leftward, here, over);
-        under = links::pick(leftward, under, here);
+        over = links::pick(leftward, node, over);
+        under = links::pick(leftward, under, node);
         here = links::pick(leftward, first, second);
         if is_leaf(first, second) {
             break;
@@ -54,7 +55,8 @@ pub fn path<F: Fn(Key) -> bool>(view: View, goes_left: F) -> Path
     }
 }
 
-// Goes by the links of one side alone: to the first slot, or to the last.
+// Goes by the links of one side alone: to the first slot, or to the last. It is not walks' `end_of`, since it counts
+// its probes and its tree may be empty.
 pub fn edge(near: &[u32], root: Slot) -> Met
     requires { Sloping near.now root.0 }
     ensures { FoundEdge near.now root.0 result }
@@ -62,10 +64,10 @@ pub fn edge(near: &[u32], root: Slot) -> Met
     let mut here = root;
     let mut last = Slot(0);
     let mut probes = 0u32;
-    while here.0 != 0 {
-        last = here;
+    while let Some(node) = here.or_none() {
+        last = node;
         probes += 1;
-        here = links::get(near, here);
+        here = links::get(near, node);
     }
     Met {
         slot: last,
@@ -82,11 +84,11 @@ pub fn find(view: View, k: Key) -> Met
     let mut here = view.root;
     let mut last = Slot(0);
     let mut probes = 0u32;
-    while here.0 != 0 {
-        let held = links::key_of(view.key, here);
-        let first = links::get(view.left, here);
-        let second = links::get(view.right, here);
-        last = here;
+    while let Some(node) = here.or_none() {
+        let held = links::key_of(view.key, node);
+        let first = links::get(view.left, node);
+        let second = links::get(view.right, node);
+        last = node;
         probes += 1; // a node with the key is looked at too
         if held == k {
             break;
@@ -140,11 +142,10 @@ pub fn place(key: &[u64], last: Slot, k: Key) -> InsertCursor
     requires { last.0 ≤ length key.now }
     ensures { FoundPlace key.now last.0 k.0 result }
 {
-    let side = match last.0 {
-        0 => Side::Right,
-        _ if k < links::key_of(key, last) => Side::Left,
-        _ => Side::Right,
-    };
+    let leftward = last
+        .or_none()
+        .is_some_and(|slot| k < links::key_of(key, slot));
+    let side = if leftward { Side::Left } else { Side::Right };
     InsertCursor { parent: last, side }
 }
 

@@ -2,7 +2,8 @@
 use links::types::{Side, Slot};
 
 // A descent down to a missing child: its last node, the last nodes at which it turned right and left, each 0 where
-// there is none, and how many nodes it has looked at.
+// there is none, and how many nodes it has looked at. 0 stays a number here, as it is in the lent arrays: the turns are
+// picked without a branch.
 #[derive(Clone, Copy)]
 pub struct Path {
     pub last: Slot,
@@ -11,7 +12,8 @@ pub struct Path {
     pub probes: u32,
 }
 
-// The slot that a descent looks for, or 0; its last node; and how many nodes it has looked at.
+// The slot that a descent looks for, or 0; its last node, or 0; and how many nodes it has looked at. 0 stays a number
+// here: the slots are picked without a branch, and a cursor stores them and hands them out so.
 #[derive(Clone, Copy)]
 pub struct Met {
     pub slot: Slot,

@@ -7,11 +7,11 @@ use Rattle.descent.proofs.Downward.{By}
 use Rattle.descent.proofs.Keeping.{Keeping}
 use Rattle.descent.proofs.find.Given as goal
 
-abbrev pub invariant-loop-here : goal.invariant-loop-here
-invariant-loop-here l =
+abbrev pub invariant-loop-node : goal.invariant-loop-node
+invariant-loop-node l =
     Keeping l.view.left.now l.view.right.now l.view.key.now l.initial.here.0
     (By (find_step (at l.view.key.now) l.k.0)) l.here.0 l.last.0 l.probes
 
-abbrev pub decreases-loop-here : goal.decreases-loop-here
-decreases-loop-here l =
+abbrev pub decreases-loop-node : goal.decreases-loop-node
+decreases-loop-node l =
     length l.view.left.now - l.probes
