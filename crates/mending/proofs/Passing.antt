@@ -21,11 +21,14 @@ use Rattle.mending.specs.Passes.{Sibling, red_below, RedChild, pass_in, PassPre,
 
 module _ {left right pc : List ℕ} {slot parent : ℕ} (pre : SlotIn left right pc slot) (up : GotParent pc slot parent)
   where
-    pub sibling_none : parent ≡ 0 → Sibling left right pc slot 0
+    no_sibling : parent ≡ 0 → (root : ℕ) → sibling_in (links left right pc root) slot ≡ 0
     unfolding sibling_in
+    no_sibling none root = rw (sided_parent lft left right pc root slot, ← up.is, eq-eqb parent 0 none) refl
+
+    pub sibling_none : parent ≡ 0 → Sibling left right pc slot None
     sibling_none none = record {
-      is = λ root. rw (sided_parent lft left right pc root slot, ← up.is, eq-eqb parent 0 none);
-      top = omega arith;
+      is = no_sibling none;
+      top = λ root. rw (no_sibling none root) (omega arith);
     }
 
     module _ (some : parent ≡ 0 → ⊥) {child : ℕ} (first : Got left parent child) {test : Bool}
@@ -43,17 +46,19 @@ module _ {left right pc : List ℕ} {slot parent : ℕ} (pre : SlotIn left right
         ← tested,
       )
 
-      pub sibling_right : {found : ℕ} → test ≡ true → Got right parent found → Sibling left right pc slot found
-      sibling_right same second = record {
-        is = λ root. rw (sibling_by root, same, sided_far lft left right pc root parent) second.is;
-        top = omega (arith, second.top, pre.lr);
-      }
+      pub sibling_right : {other : ℕ} {found : Option Slot} → test ≡ true → Got right parent other
+          → SlotOrNone found other → Sibling left right pc slot found
+      sibling_right {other} same second told =
+          let is : (root : ℕ) → sibling_in (links left right pc root) slot ≡ other
+          = λ root. rw (sibling_by root, same, sided_far lft left right pc root parent) (sym second.is) in
+          record { is = λ root. rw (is root) told; top = λ root. rw (is root) (omega (arith, second.top, pre.lr)) }
 
-      pub sibling_left : test ≡ false → Sibling left right pc slot child
-      sibling_left apart = record {
-        is = λ root. rw (sibling_by root, apart, sided_near lft left right pc root parent) first.is;
-        top = first.top;
-      }
+      pub sibling_left : {found : Option Slot} → test ≡ false → SlotOrNone found child
+          → Sibling left right pc slot found
+      sibling_left apart told =
+          let is : (root : ℕ) → sibling_in (links left right pc root) slot ≡ child
+          = λ root. rw (sibling_by root, apart, sided_near lft left right pc root parent) (sym first.is) in
+          record { is = λ root. rw (is root) told; top = λ root. rw (is root) first.top }
 
 -- ---- has_red_child: `child` is the left child
 
@@ -124,9 +129,9 @@ module _ {left right pc : List ℕ} {slot : ℕ} {red : Bool} (pre : PassPre lef
       pub pass_parent : above ≡ true → Passed left right pc slot None
       pass_parent is-red = pass_none (λ root. rw (pass_by root, is-red) refl)
 
-      pub passed : {found : ℕ} {next : Option Slot} → above ≡ false → Sibling left right pc parent found
-          → SlotOrNone next found → Passed left right pc slot next
-      passed {found} {next} none_above sibling told =
-          let is : (root : ℕ) → pass_in (links left right pc root) slot ≡ found
-          = λ root. rw (pass_by root, none_above) (sym (sibling.is root)) in
-          record { is = λ root. rw (is root) told; top = λ root. rw (is root) sibling.top }
+      pub passed : {next : Option Slot} → above ≡ false → Sibling left right pc parent next
+          → Passed left right pc slot next
+      passed none_above sibling = record {
+        is = λ root. rw (pass_by root, none_above) (sibling.is root);
+        top = λ root. rw (pass_by root, none_above) (sibling.top root);
+      }

@@ -10,9 +10,9 @@ use Rattle.links.specs.Reads.{SlotIn, SlotOrNone}
 
 -- ---- sibling
 
-pub record Sibling (left right pc : List ℕ) (s found : ℕ) : Type 0 where
-  pub is : (root : ℕ) → found ≡ sibling_in (links left right pc root) s
-  pub top : found ≤ length left
+pub record Sibling (left right pc : List ℕ) (s : ℕ) (found : Option Slot) : Type 0 where
+  pub is : (root : ℕ) → SlotOrNone found (sibling_in (links left right pc root) s)
+  pub top : (root : ℕ) → sibling_in (links left right pc root) s ≤ length left
 
 -- ---- has_red_child
 

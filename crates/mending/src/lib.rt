@@ -13,21 +13,21 @@ ghost use Rattle.mending.specs.Climbs.{SinkAtPre, Lacking, SinkEndPre};
 
 use links::types::{Color, Links, Nodes, Slot};
 
-// The other child of a slot's parent; 0 for the root.
-pub fn sibling(nodes: Nodes, slot: Slot) -> Slot
+// The other child of a slot's parent, if it has one; none for the root.
+pub fn sibling(nodes: Nodes, slot: Slot) -> Option<Slot>
     requires { Among SlotIn nodes slot.0 }
-    ensures { Among Sibling nodes.entry slot.0 result.0 }
+    ensures { Among Sibling nodes.entry slot.0 result }
 {
     let Nodes { near, far, pc } = nodes;
     let parent = links::parent(pc, slot);
     if parent.0 == 0 {
-        return Slot(0);
+        return None;
     }
     let first = links::get(near, parent);
     if first == slot {
-        links::get(far, parent)
+        links::get(far, parent).or_none()
     } else {
-        first
+        first.or_none()
     }
 }
 
@@ -54,7 +54,7 @@ pub fn pass(nodes: Nodes, slot: Slot) -> Option<Slot>
     if links::is_red(nodes.pc, parent) {
         return None;
     }
-    sibling(nodes, parent).or_none()
+    sibling(nodes, parent)
 }
 
 // The sibling takes its parent's colour and goes up over it; the parent and the outer child turn black.
@@ -133,7 +133,7 @@ pub fn sink_at(tree: Links, sibling: Slot, parent: Slot)
     }
 }
 
-// The end of the climb on left and right: near is the side that the sibling is not on.
+// The end of the climb at a sibling on either side of its parent, which tells near from far for the rest.
 pub fn sink_end(tree: Links, slot: Slot)
     requires { Over SinkEndPre tree slot.0 }
     ensures { Made (sink_end (links_in tree.entry) slot.0) tree.entry tree.exit }

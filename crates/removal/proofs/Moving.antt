@@ -1,9 +1,10 @@
 -- remove_two: each call's demands, from what the calls before it left, and the promise.
 use Prim.Native.Nat.{ℕ}
 use mathlib.Core.List.{List, ◌∷◌, ◌++◌}
-use mathlib.Core.Path.{◌≡◌, ap, ◌∙◌}
+use mathlib.Core.Path.{◌≡◌, ap, subst, ◌∙◌}
 use lib.ListN.{length}
 use native.Mathlib.Omega.{arith}
+use Rattle.std.specs.Prelude.{Option}
 use Rattle.model.specs.Tree.{lft, rgt, leaf, top_of, Frame, frame, plug}
 use Rattle.theory.specs.Links.{Links, links, drawn}
 use Rattle.theory.specs.Programs.{sibling_in, detach, replace_in, finish_remove, remove_two}
@@ -13,11 +14,13 @@ use Rattle.theory.proofs.Counts.{slot_low, slot_high}
 use Rattle.theory.proofs.Replacing.{detach_drawn}
 use Rattle.theory.proofs.Removing.{sibling_drawn, sibling_same, Mendable, left_sound, moved_drawn, moved_mendable}
 use Rattle.theory.proofs.Places.{long, spot_low, spot_high, spot_bounded, spot_color, spot_far}
-use Rattle.links.specs.Reads.{SlotOf, SlotIn, GetPre, Got, GotColor}
+use Rattle.links.specs.declared.types.Slot.{Slot}
+use Rattle.links.specs.Reads.{SlotOf, SlotIn, GetPre, Got, GotColor, SlotOrNone}
 use Rattle.links.proofs.Spots.{spot_in, in_get_far, in_color}
 use Rattle.turns.specs.Turns.{ReplaceWithPre}
 use Rattle.mending.specs.Passes.{Sibling}
-use Rattle.removal.specs.Removals.{DetachPre, FinishPre, TwoPre}
+use Rattle.removal.specs.Removals.{DetachPre, FinishPre, number, TwoPre}
+use Rattle.removal.proofs.Finishing.{number_told}
 
 module _ {left right pc : List ℕ} {root slot next : ℕ} (pre : TwoPre left right pc root slot next) where
   -- the way up from `next`, with the slot on it, and with `next` in its place
@@ -73,11 +76,12 @@ module _ {left right pc : List ℕ} {root slot next : ℕ} (pre : TwoPre left ri
             new_high = omega (arith, spot_high pre.spot, cut.same);
           }
 
-      module _ {color sibling : ℕ} (shade : GotColor pc next color) (found : Sibling left right pc next sibling)
+      module _ {color : ℕ} {sibling : Option Slot} (shade : GotColor pc next color)
+          (found : Sibling left right pc next sibling) (below : Option Slot) (told : SlotOrNone below child)
           {left₂ right₂ pc₂ : List ℕ} {root₂ : ℕ}
           (moved : Made (replace_in (links left₁ right₁ pc₁ root₁) slot next) (length left₁) left₂ right₂ pc₂ root₂)
         where
-          pub two_finish : FinishPre left₂ right₂ pc₂ root₂ color child sibling
+          pub two_finish : FinishPre left₂ right₂ pc₂ root₂ color below sibling
           two_finish =
               let h = pre.spot.held.sound in
               let mend : Mendable pre.size pre.next_color pre.tree after
@@ -97,15 +101,15 @@ module _ {left right pc : List ℕ} {root slot next : ℕ} (pre : TwoPre left ri
                 };
                 solid = mend.solid;
                 color = shade.is ∙ spot_color pre.spot;
-                child = child_is;
-                sibling = found.is root ∙ ap (λ (z : Links). sibling_in z next) pre.spot.held.is
+                child = subst (SlotOrNone below) child_is told;
+                sibling = subst (SlotOrNone sibling) (ap (λ (z : Links). sibling_in z next) pre.spot.held.is
                     ∙ sibling_drawn pre.next_color leaf next pre.tree before h
-                    ∙ sibling_same pre.inner pre.color slot next pre.other pre.way;
+                    ∙ sibling_same pre.inner pre.color slot next pre.other pre.way) (found.is root);
               }
 
           pub two_done : {left' right' pc' : List ℕ} {root' : ℕ}
-              → Made (finish_remove (length left₂) (links left₂ right₂ pc₂ root₂) color child sibling) (length left₂)
-              left' right' pc' root'
+              → Made (finish_remove (length left₂) (links left₂ right₂ pc₂ root₂) color (number below) (number sibling))
+              (length left₂) left' right' pc' root'
               → Made (remove_two (length left) (links left right pc root) slot next)
               (length left) left' right' pc' root'
           unfolding remove_two
@@ -115,11 +119,12 @@ module _ {left right pc : List ℕ} {root slot next : ℕ} (pre : TwoPre left ri
               ← got-child.is,
               sided_color lft left right pc root next,
               ← shade.is,
-              ← found.is root,
+              ← number_told sibling (found.is root),
               ← cut.is,
               ← moved.is,
               ← cut.same,
               ← moved.same,
+              ← number_told below told,
             ) made.is;
             bounded = made.bounded;
             same = made.same ∙ moved.same ∙ cut.same;

@@ -1,10 +1,12 @@
 -- What detach, finish_remove, remove_one, remove_two and remove require.
-use Rattle.std.specs.Prelude.{ℕ, ◌≤◌, ◌<◌, ◌≡◌, length}
+use Rattle.std.specs.Prelude.{ℕ, ◌≤◌, ◌<◌, Option, None, Some, ◌≡◌, length}
 use mathlib.Core.List.{List, ◌∷◌, ◌++◌, Memᴰ}
 use Rattle.model.specs.Tree.{Side, lft, rgt, Color, black, Tree, leaf, node, nod, top_of, slots, Frame, frame, plug}
 use Rattle.model.specs.Lent.{color_code}
 use Rattle.theory.specs.Balance.{Balanced}
 use Rattle.theory.specs.Places.{Bounded, Drawn, Spot, sibling_of, Solid}
+use Rattle.links.specs.declared.types.Slot.{Slot}
+use Rattle.links.specs.Reads.{SlotOrNone}
 
 -- detach: the slot y, and its child n or 0
 pub record DetachPre (left right pc : List ℕ) (root y n : ℕ) : Type 0 where
@@ -14,8 +16,8 @@ pub record DetachPre (left right pc : List ℕ) (root y n : ℕ) : Type 0 where
   pub child : n ≤ length left
 
 -- finish_remove: a node of the colour `lost` has left its place, at the end of the way, to the tree; c, n and s are
--- that colour, the slot at the top of that tree, and the sibling's
-pub record FinishPre (left right pc : List ℕ) (root c n s : ℕ) : Type 0 where
+-- that colour, the slot at the top of that tree, if there is one, and the sibling's
+pub record FinishPre (left right pc : List ℕ) (root c : ℕ) (n s : Option Slot) : Type 0 where
   pub size : ℕ
   pub lost : Color
   pub tree : Tree
@@ -23,8 +25,13 @@ pub record FinishPre (left right pc : List ℕ) (root c n s : ℕ) : Type 0 wher
   pub held : Drawn lft left right pc root size (plug tree way)
   pub solid : lost ≡ black → Solid way
   pub color : c ≡ color_code lost
-  pub child : n ≡ top_of tree
-  pub sibling : s ≡ sibling_of way
+  pub child : SlotOrNone n (top_of tree)
+  pub sibling : SlotOrNone s (sibling_of way)
+
+-- the number of a slot, or 0 for none
+abbrev pub number : Option Slot → ℕ
+number None = 0
+number (Some s) = s.0
 
 -- remove_one: x stands in a balanced tree, and has no other child than n, if that
 pub record OnePre (left right pc : List ℕ) (root x n : ℕ) : Type 0 where

@@ -5,7 +5,7 @@
 ghost use Rattle.theory.specs.Programs.{detach, finish_remove, remove_one, remove_two, remove_at};
 ghost use Rattle.links.specs.Bundles.{Over, Made, links_in, slots_in};
 ghost use Rattle.links.specs.Colors.{shade};
-ghost use Rattle.removal.specs.Removals.{DetachPre, FinishPre, OnePre, TwoPre, Removable};
+ghost use Rattle.removal.specs.Removals.{DetachPre, FinishPre, number, OnePre, TwoPre, Removable};
 
 use links::types::{Color, Links, Nodes, Slot};
 
@@ -21,28 +21,28 @@ pub fn detach(tree: Links, slot: Slot, child: Slot)
     links::release(near, far, pc, slot);
 }
 
-// Makes up for a lost node of this colour, in whose place a child, or 0, now stands beside the sibling or 0.
-pub fn finish_remove(tree: Links, color: Color, child: Slot, sibling: Slot)
-    requires { Over FinishPre tree (shade color) child.0 sibling.0 }
+// Makes up for a lost node of this colour, in whose place its child, if it had one, now stands beside its sibling.
+pub fn finish_remove(tree: Links, color: Color, child: Option<Slot>, sibling: Option<Slot>)
+    requires { Over FinishPre tree (shade color) child sibling }
     ensures { Made
-        (finish_remove (slots_in tree.entry) (links_in tree.entry) (shade color) child.0 sibling.0)
+        (finish_remove (slots_in tree.entry) (links_in tree.entry) (shade color) (number child) (number sibling))
         tree.entry tree.exit }
 {
     let Links(near, far, pc, root) = tree;
     if color == Color::Red {
         return;
     }
-    if child.0 != 0 {
+    if let Some(child) = child {
         links::set_color(pc, child, Color::Black);
         return;
     }
-    if sibling.0 == 0 {
+    let Some(sibling) = sibling else {
         return;
-    }
+    };
     mending::post_remove(Links(near, far, pc, root), sibling);
 }
 
-// Takes out a slot with one child at the most, which takes its place.
+// Takes out a slot with one child at the most, which takes its place: a number read from the links, where 0 is none.
 pub fn remove_one(tree: Links, slot: Slot, child: Slot)
     requires { Over OnePre tree slot.0 child.0 }
     ensures { Made (remove_one (slots_in tree.entry) (links_in tree.entry) slot.0 child.0) tree.entry tree.exit }
@@ -51,7 +51,7 @@ pub fn remove_one(tree: Links, slot: Slot, child: Slot)
     let color = links::color(pc, slot);
     let sibling = mending::sibling(Nodes { near, far, pc }, slot);
     detach(Links(near, far, pc, root), slot, child);
-    finish_remove(Links(near, far, pc, root), color, child, sibling);
+    finish_remove(Links(near, far, pc, root), color, child.or_none(), sibling);
 }
 
 // Takes out a slot with two children: `next`, the slot after it, moves into its place.
@@ -65,7 +65,7 @@ pub fn remove_two(tree: Links, slot: Slot, next: Slot)
     let sibling = mending::sibling(Nodes { near, far, pc }, next);
     detach(Links(near, far, pc, root), next, child);
     turns::replace_with(Links(near, far, pc, root), slot, next);
-    finish_remove(Links(near, far, pc, root), color, child, sibling);
+    finish_remove(Links(near, far, pc, root), color, child.or_none(), sibling);
 }
 
 // Takes out a slot, by the children that it has.

@@ -19,4 +19,3 @@ pub returns : goal.returns
 returns c =
     passed c.requires c.is_red.ensures c.if-is_red.false c.has_red_child.ensures c.if-has_red_child.false
     c.parent-parent.ensures c.is_red-2.ensures c.if-is_red-2.false c.sibling.ensures
-    c.or_none.ensures

@@ -8,8 +8,9 @@ returns-then-parent-eq0 c =
 pub returns-then-eq : goal.returns-then-eq
 returns-then-eq c =
     sibling_right c.requires c.parent-parent.ensures c.if-parent-eq0.false c.get-first.ensures c.eq.ensures c.if-eq.true
-    c.get.ensures
+    c.get.ensures c.or_none.ensures
 
 pub returns-else-eq : goal.returns-else-eq
 returns-else-eq c =
     sibling_left c.requires c.parent-parent.ensures c.if-parent-eq0.false c.get-first.ensures c.eq.ensures c.if-eq.false
+    c.or_none-else-eq.ensures

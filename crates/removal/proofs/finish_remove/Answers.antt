@@ -7,17 +7,17 @@ returns-then-eq c =
 
 pub set_color-requires : goal.set_color-requires
 set_color-requires c =
-    finish_color c.args.color c.requires c.eq.ensures c.if-eq.false c.if-child-ne0.true
+    finish_color c.args.color c.requires c.eq.ensures c.if-eq.false c.in-Some.is
 
-pub returns-then-child-ne0 : goal.returns-then-child-ne0
-returns-then-child-ne0 c =
-    finish_child c.args.color c.requires c.eq.ensures c.if-eq.false c.if-child-ne0.true c.set_color.ensures
+pub returns-in-Some : goal.returns-in-Some
+returns-in-Some c =
+    finish_child c.args.color c.requires c.eq.ensures c.if-eq.false c.in-Some.is c.set_color.ensures
 
-pub returns-then-sibling-eq0 : goal.returns-then-sibling-eq0
-returns-then-sibling-eq0 c =
-    finish_root c.args.color c.requires c.eq.ensures c.if-eq.false c.if-child-ne0.false c.if-sibling-eq0.true
+pub returns-in_default-sibling : goal.returns-in_default-sibling
+returns-in_default-sibling c =
+    finish_root c.args.color c.requires c.eq.ensures c.if-eq.false c.in_default.is c.in_default-sibling.is
 
 pub returns : goal.returns
 returns c =
-    finish_climb c.args.color c.requires c.eq.ensures c.if-eq.false c.if-child-ne0.false c.if-sibling-eq0.false
+    finish_climb c.args.color c.requires c.eq.ensures c.if-eq.false c.in_default.is c.in-Some-sibling.is
     c.post_remove.ensures

@@ -15,8 +15,10 @@ detach-requires c =
 
 pub finish_remove-requires : goal.finish_remove-requires
 finish_remove-requires c =
-    one_finish c.requires c.color-color.ensures c.sibling-sibling.ensures c.detach.ensures
+    one_finish c.requires c.color-color.ensures c.sibling-sibling.ensures
+    c.or_none.result c.or_none.ensures c.detach.ensures
 
 pub returns : goal.returns
 returns c =
-    one_done c.requires c.color-color.ensures c.sibling-sibling.ensures c.detach.ensures c.finish_remove.ensures
+    one_done c.requires c.color-color.ensures c.sibling-sibling.ensures
+    c.or_none.result c.or_none.ensures c.detach.ensures c.finish_remove.ensures

@@ -24,9 +24,9 @@ replace_with-requires c =
 pub finish_remove-requires : goal.finish_remove-requires
 finish_remove-requires c =
     two_finish c.requires c.get-child.ensures c.detach.ensures c.color-color.ensures c.sibling-sibling.ensures
-    c.replace_with.ensures
+    c.or_none.result c.or_none.ensures c.replace_with.ensures
 
 pub returns : goal.returns
 returns c =
     two_done c.requires c.get-child.ensures c.detach.ensures c.color-color.ensures c.sibling-sibling.ensures
-    c.replace_with.ensures c.finish_remove.ensures
+    c.or_none.result c.or_none.ensures c.replace_with.ensures c.finish_remove.ensures
