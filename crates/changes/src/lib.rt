@@ -1,14 +1,13 @@
 // The operations that change the tree, on arrays that are well formed. Each tests what it was given, in the order of
-// the codes, and does its work where nothing is refused.
+// the codes, and does its work where nothing is refused. That they are well formed is a `requires`: as a ghost field
+// beside the mutable references it was tried, and it would have to hold between the writes.
 #![tactic(auto)]
 
-ghost use Rattle.std.specs.Prelude.{◌≡◌, Ok};
 ghost use Rattle.model.specs.WellFormed.{WellFormed};
 ghost use Rattle.model.specs.Commands as command;
 ghost use Rattle.model.specs.Answers.{entry_refusal, unless_refused};
 ghost use Rattle.model.specs.Operations.{accepted, operate};
-ghost use Rattle.links.specs.Bundles.{lent_in, lent_out, keyed_in, keyed_out};
-ghost use Rattle.links.specs.Outcomes.{outcome_of};
+ghost use Rattle.links.specs.Bundles.{lent_in, keyed_in, Does, Relinks};
 ghost use Rattle.links.specs.Sides.{side_of};
 ghost use Rattle.descent.specs.Entries.{entry_told};
 ghost use Rattle.changes.specs.Changes.{insert_next};
@@ -19,7 +18,7 @@ use links::types::{Answer, Done, Key, Lent, Links, Refusal, Side, Slot, View};
 // A slot goes after every key that is at most its own.
 pub fn insert(lent: Lent, slot: Slot, k: Key) -> Answer
     requires { WellFormed (lent_in lent) }
-    ensures { outcome_of result (lent_out lent.exit) ≡ operate (command.insert slot.0 k.0) (lent_in lent.entry) }
+    ensures { Does (operate (command.insert slot.0 k.0)) lent.entry result lent.exit }
 {
     let Lent(left, right, pc, key, root) = lent;
     refusals::test_new(pc, slot)?;
@@ -42,7 +41,7 @@ pub fn insert(lent: Lent, slot: Slot, k: Key) -> Answer
 // The slot that has the key, or else the new one, hung where the descent for the key ends.
 pub fn or_insert(lent: Lent, slot: Slot, k: Key) -> Answer
     requires { WellFormed (lent_in lent) }
-    ensures { outcome_of result (lent_out lent.exit) ≡ operate (command.or_insert slot.0 k.0) (lent_in lent.entry) }
+    ensures { Does (operate (command.or_insert slot.0 k.0)) lent.entry result lent.exit }
 {
     let Lent(left, right, pc, key, root) = lent;
     refusals::test_new(pc, slot)?;
@@ -66,9 +65,10 @@ pub fn or_insert(lent: Lent, slot: Slot, k: Key) -> Answer
 // As `or_insert`, with an entry that was asked for before and may be stale.
 pub fn or_insert_at(lent: Lent, entry: Entry, slot: Slot, k: Key) -> Answer
     requires { WellFormed (lent_in lent) }
-    ensures { outcome_of result (lent_out lent.exit)
-        ≡ unless_refused (entry_refusal (entry_told entry) slot.0 k.0 (lent_in lent.entry)) (lent_in lent.entry)
-        (λ _. accepted (command.or_insert slot.0 k.0) (lent_in lent.entry)) }
+    ensures { Does
+        (λ m. unless_refused (entry_refusal (entry_told entry) slot.0 k.0 m) m
+        (λ _. accepted (command.or_insert slot.0 k.0) m))
+        lent.entry result lent.exit }
 {
     let Lent(left, right, pc, key, root) = lent;
     refusals::test_new(pc, slot)?;
@@ -95,8 +95,7 @@ pub fn or_insert_at(lent: Lent, entry: Entry, slot: Slot, k: Key) -> Answer
 // A node is taken out of the tree, and its key stays. The answer is the slot after it.
 pub fn remove(tree: Links, key: &[u64], position: Slot) -> Answer
     requires { WellFormed (keyed_in tree key.now) }
-    ensures { outcome_of result (keyed_out tree.exit key.now)
-        ≡ operate (command.remove position.0) (keyed_in tree.entry key.now) }
+    ensures { Relinks (operate (command.remove position.0)) tree.entry key.now result tree.exit }
 {
     let Links(left, right, pc, root) = tree;
     refusals::test_node(pc, position)?;
@@ -118,8 +117,7 @@ pub fn remove(tree: Links, key: &[u64], position: Slot) -> Answer
 // A slot goes right beside a position: after it, or before it; from 0 to the front, or to the back.
 pub fn insert_beside(lent: Lent, side: Side, position: Slot, slot: Slot, k: Key) -> Answer
     requires { WellFormed (lent_in lent) }
-    ensures { outcome_of result (lent_out lent.exit)
-        ≡ operate (insert_next (side_of side) position.0 slot.0 k.0) (lent_in lent.entry) }
+    ensures { Does (operate (insert_next (side_of side) position.0 slot.0 k.0)) lent.entry result lent.exit }
 {
     let Lent(left, right, pc, key, root) = lent;
     refusals::test_position(pc, position)?;
@@ -138,8 +136,7 @@ pub fn insert_beside(lent: Lent, side: Side, position: Slot, slot: Slot, k: Key)
 // A new slot takes the place of a position's node, with its links and colour.
 pub fn replace_with(lent: Lent, position: Slot, slot: Slot, k: Key) -> Answer
     requires { WellFormed (lent_in lent) }
-    ensures { outcome_of result (lent_out lent.exit)
-        ≡ operate (command.replace_with position.0 slot.0 k.0) (lent_in lent.entry) }
+    ensures { Does (operate (command.replace_with position.0 slot.0 k.0)) lent.entry result lent.exit }
 {
     let Lent(left, right, pc, key, root) = lent;
     refusals::test_node(pc, position)?;
@@ -162,7 +159,7 @@ pub fn replace_with(lent: Lent, position: Slot, slot: Slot, k: Key) -> Answer
 // All slots become unlinked; the keys stay.
 pub fn clear(tree: Links, key: &[u64]) -> Answer
     requires { WellFormed (keyed_in tree key.now) }
-    ensures { outcome_of result (keyed_out tree.exit key.now) ≡ operate command.clear (keyed_in tree.entry key.now) }
+    ensures { Relinks (operate command.clear) tree.entry key.now result tree.exit }
 {
     let Links(left, right, pc, root) = tree;
     clearing::clear(Links(left, right, pc, root));

@@ -3,12 +3,10 @@
 
 pub mod types;
 
-ghost use Rattle.std.specs.Prelude.{◌≡◌};
 ghost use Rattle.model.specs.WellFormed.{WellFormed};
 ghost use Rattle.model.specs.Operations.{operate};
 ghost use Rattle.model.specs.Batch.{obey as obeyed, command_of as commanded};
-ghost use Rattle.links.specs.Bundles.{viewed, lent_in, lent_out};
-ghost use Rattle.links.specs.Outcomes.{outcome_of};
+ghost use Rattle.links.specs.Bundles.{lent_in, Does, Tells};
 ghost use Rattle.records.specs.Records.{record_in};
 ghost use Rattle.commands.specs.Commands.{asked, changing};
 
@@ -18,7 +16,7 @@ use types::{Change, Command, Query};
 
 // What a query answers.
 fn look(tree: Sound, query: Query) -> Answer
-    ensures { outcome_of result (viewed tree.entry.view) ≡ operate (asked query) (viewed tree.entry.view) }
+    ensures { Tells (operate (asked query)) tree.entry.view result }
 {
     match query {
         Query::Find(k) => queries::find(tree, k),
@@ -30,7 +28,7 @@ fn look(tree: Sound, query: Query) -> Answer
 // What a change does.
 fn apply(lent: Lent, change: Change) -> Answer
     requires { WellFormed (lent_in lent) }
-    ensures { outcome_of result (lent_out lent.exit) ≡ operate (changing change) (lent_in lent.entry) }
+    ensures { Does (operate (changing change)) lent.entry result lent.exit }
 {
     let Lent(left, right, pc, key, root) = lent;
     match change {
@@ -50,8 +48,7 @@ fn apply(lent: Lent, change: Change) -> Answer
 // One record: what its operation does, or BadRecord where its mark or its operation is none.
 pub fn obey(lent: Lent, order: Record) -> Answer
     requires { WellFormed (lent_in lent) }
-    ensures { outcome_of result (lent_out lent.exit)
-        ≡ obeyed operate (commanded (record_in order)) (lent_in lent.entry) }
+    ensures { Does (obeyed operate (commanded (record_in order))) lent.entry result lent.exit }
 {
     let Lent(left, right, pc, key, root) = lent;
     let change = match Command::try_from(order)? {

@@ -1,6 +1,7 @@
 // The library: the twelve single calls over arrays that the caller lends, `entry`, and or_insert with an entry. Each
 // call first checks the arrays, then refuses in the order of the codes, then works; a refused call changes nothing.
-// `cursors` moves a cursor in place; `nodes` has first_child and last_child over link records.
+// `cursors` moves a cursor in place; `nodes` has first_child and last_child over link records. The pairs for both sides
+// keep their names, which are the library's, and are one line each over one function with a `Side`.
 #![tactic(auto)]
 
 pub mod cursors;
@@ -12,8 +13,7 @@ ghost use Rattle.model.specs.Lent.{lent};
 ghost use Rattle.model.specs.Check.{check as accepts};
 ghost use Rattle.model.specs.Commands as command;
 ghost use Rattle.model.specs.Operations.{perform, entry_call, or_insert_call};
-ghost use Rattle.links.specs.Bundles.{viewed, lent_in, lent_out, keyed_in, keyed_out};
-ghost use Rattle.links.specs.Outcomes.{outcome_of};
+ghost use Rattle.links.specs.Bundles.{viewed, Does, Relinks, Tells};
 ghost use Rattle.links.specs.Sides.{side_of};
 ghost use Rattle.descent.specs.Entries.{entry_told};
 ghost use Rattle.queries.specs.Queries.{bound_command, step_command};
@@ -33,7 +33,7 @@ pub fn check(view: View) -> bool
 
 // The first slot with the key that a descent from the root meets, or 0.
 pub fn find(view: View, k: Key) -> Answer
-    ensures { outcome_of result (viewed view.entry) ≡ perform (command.find k.0) (viewed view.entry) }
+    ensures { Tells (perform (command.find k.0)) view.entry result }
 {
     let tree = wellformed::checked(view)?;
     queries::find(tree, k)
@@ -42,8 +42,7 @@ pub fn find(view: View, k: Key) -> Answer
 // Both bounds; kind 0 is Unbounded, 1 Included, 2 Excluded. It stays a number, since any other has to be answered by
 // BadRecord behind Damaged.
 fn bound(view: View, side: Side, kind: u32, k: Key) -> Answer
-    ensures { outcome_of result (viewed view.entry)
-        ≡ perform (bound_command (side_of side) kind k.0) (viewed view.entry) }
+    ensures { Tells (perform (bound_command (side_of side) kind k.0)) view.entry result }
 {
     let tree = wellformed::checked(view)?;
     queries::bound(tree, side, kind, k)
@@ -51,22 +50,21 @@ fn bound(view: View, side: Side, kind: u32, k: Key) -> Answer
 
 // The first slot with a key from k on, or past it.
 pub fn lower_bound(view: View, kind: u32, k: Key) -> Answer
-    ensures { outcome_of result (viewed view.entry) ≡ perform (command.lower_bound kind k.0) (viewed view.entry) }
+    ensures { Tells (perform (command.lower_bound kind k.0)) view.entry result }
 {
     bound(view, Side::Left, kind, k)
 }
 
 // The last slot with a key up to k, or before it.
 pub fn upper_bound(view: View, kind: u32, k: Key) -> Answer
-    ensures { outcome_of result (viewed view.entry) ≡ perform (command.upper_bound kind k.0) (viewed view.entry) }
+    ensures { Tells (perform (command.upper_bound kind k.0)) view.entry result }
 {
     bound(view, Side::Right, kind, k)
 }
 
 // Both moves.
 fn step(view: View, side: Side, position: Slot) -> Answer
-    ensures { outcome_of result (viewed view.entry)
-        ≡ perform (step_command (side_of side) position.0) (viewed view.entry) }
+    ensures { Tells (perform (step_command (side_of side) position.0)) view.entry result }
 {
     let tree = wellformed::checked(view)?;
     queries::neighbour(tree, side, position)
@@ -74,14 +72,14 @@ fn step(view: View, side: Side, position: Slot) -> Answer
 
 // The slot after a position; from 0 the first.
 pub fn next(view: View, position: Slot) -> Answer
-    ensures { outcome_of result (viewed view.entry) ≡ perform (command.next position.0) (viewed view.entry) }
+    ensures { Tells (perform (command.next position.0)) view.entry result }
 {
     step(view, Side::Right, position)
 }
 
 // The slot before a position; from 0 the last.
 pub fn prev(view: View, position: Slot) -> Answer
-    ensures { outcome_of result (viewed view.entry) ≡ perform (command.prev position.0) (viewed view.entry) }
+    ensures { Tells (perform (command.prev position.0)) view.entry result }
 {
     step(view, Side::Left, position)
 }
@@ -110,7 +108,7 @@ fn test(left: &[u32], right: &[u32], pc: &[u32], key: &[u64], root: u32) -> Resu
 
 // Hangs a slot with its key, behind all keys that are not greater.
 pub fn insert(lent: Lent, slot: Slot, k: Key) -> Answer
-    ensures { outcome_of result (lent_out lent.exit) ≡ perform (command.insert slot.0 k.0) (lent_in lent.entry) }
+    ensures { Does (perform (command.insert slot.0 k.0)) lent.entry result lent.exit }
 {
     let Lent(left, right, pc, key, root) = lent;
     test(left, right, pc, key, *root)?;
@@ -119,7 +117,7 @@ pub fn insert(lent: Lent, slot: Slot, k: Key) -> Answer
 
 // Operation 2, or_insert with a fresh entry: the slot that holds the key, or the new one.
 pub fn find_or_insert(lent: Lent, slot: Slot, k: Key) -> Answer
-    ensures { outcome_of result (lent_out lent.exit) ≡ perform (command.or_insert slot.0 k.0) (lent_in lent.entry) }
+    ensures { Does (perform (command.or_insert slot.0 k.0)) lent.entry result lent.exit }
 {
     let Lent(left, right, pc, key, root) = lent;
     test(left, right, pc, key, *root)?;
@@ -128,8 +126,7 @@ pub fn find_or_insert(lent: Lent, slot: Slot, k: Key) -> Answer
 
 // The same with an entry at hand; Stale where `entry` would give another now.
 pub fn or_insert(lent: Lent, entry: Entry, slot: Slot, k: Key) -> Answer
-    ensures { outcome_of result (lent_out lent.exit)
-        ≡ or_insert_call (entry_told entry) slot.0 k.0 (lent_in lent.entry) }
+    ensures { Does (or_insert_call (entry_told entry) slot.0 k.0) lent.entry result lent.exit }
 {
     let Lent(left, right, pc, key, root) = lent;
     test(left, right, pc, key, *root)?;
@@ -138,8 +135,7 @@ pub fn or_insert(lent: Lent, entry: Entry, slot: Slot, k: Key) -> Answer
 
 // Takes a slot out and answers the one after it; its key stays.
 pub fn remove(tree: Links, key: &[u64], position: Slot) -> Answer
-    ensures { outcome_of result (keyed_out tree.exit key.now)
-        ≡ perform (command.remove position.0) (keyed_in tree.entry key.now) }
+    ensures { Relinks (perform (command.remove position.0)) tree.entry key.now result tree.exit }
 {
     let Links(left, right, pc, root) = tree;
     test(left, right, pc, key, *root)?;
@@ -148,8 +144,7 @@ pub fn remove(tree: Links, key: &[u64], position: Slot) -> Answer
 
 // Both insertions beside a position.
 fn insert_beside(lent: Lent, side: Side, position: Slot, slot: Slot, k: Key) -> Answer
-    ensures { outcome_of result (lent_out lent.exit)
-        ≡ perform (insert_next (side_of side) position.0 slot.0 k.0) (lent_in lent.entry) }
+    ensures { Does (perform (insert_next (side_of side) position.0 slot.0 k.0)) lent.entry result lent.exit }
 {
     let Lent(left, right, pc, key, root) = lent;
     test(left, right, pc, key, *root)?;
@@ -158,8 +153,7 @@ fn insert_beside(lent: Lent, side: Side, position: Slot, slot: Slot, k: Key) -> 
 
 // Hangs a slot with its key right behind a position; from 0 at the front.
 pub fn insert_after(lent: Lent, position: Slot, slot: Slot, k: Key) -> Answer
-    ensures { outcome_of result (lent_out lent.exit)
-        ≡ perform (command.insert_after position.0 slot.0 k.0) (lent_in lent.entry) }
+    ensures { Does (perform (command.insert_after position.0 slot.0 k.0)) lent.entry result lent.exit }
 {
     let Lent(left, right, pc, key, root) = lent;
     insert_beside(
@@ -173,8 +167,7 @@ pub fn insert_after(lent: Lent, position: Slot, slot: Slot, k: Key) -> Answer
 
 // Hangs a slot with its key right before a position; from 0 at the back.
 pub fn insert_before(lent: Lent, position: Slot, slot: Slot, k: Key) -> Answer
-    ensures { outcome_of result (lent_out lent.exit)
-        ≡ perform (command.insert_before position.0 slot.0 k.0) (lent_in lent.entry) }
+    ensures { Does (perform (command.insert_before position.0 slot.0 k.0)) lent.entry result lent.exit }
 {
     let Lent(left, right, pc, key, root) = lent;
     insert_beside(
@@ -188,8 +181,7 @@ pub fn insert_before(lent: Lent, position: Slot, slot: Slot, k: Key) -> Answer
 
 // Puts a slot with its key in the place of another, which is released.
 pub fn replace_with(lent: Lent, position: Slot, slot: Slot, k: Key) -> Answer
-    ensures { outcome_of result (lent_out lent.exit)
-        ≡ perform (command.replace_with position.0 slot.0 k.0) (lent_in lent.entry) }
+    ensures { Does (perform (command.replace_with position.0 slot.0 k.0)) lent.entry result lent.exit }
 {
     let Lent(left, right, pc, key, root) = lent;
     test(left, right, pc, key, *root)?;
@@ -198,7 +190,7 @@ pub fn replace_with(lent: Lent, position: Slot, slot: Slot, k: Key) -> Answer
 
 // All slots become unlinked; the keys stay.
 pub fn clear(tree: Links, key: &[u64]) -> Answer
-    ensures { outcome_of result (keyed_out tree.exit key.now) ≡ perform command.clear (keyed_in tree.entry key.now) }
+    ensures { Relinks (perform command.clear) tree.entry key.now result tree.exit }
 {
     let Links(left, right, pc, root) = tree;
     test(left, right, pc, key, *root)?;

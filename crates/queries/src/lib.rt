@@ -7,8 +7,7 @@ ghost use Rattle.model.specs.Lent.{key_of, tree_of};
 ghost use Rattle.model.specs.Descent.{entry_for};
 ghost use Rattle.model.specs.Commands as command;
 ghost use Rattle.model.specs.Operations.{operate};
-ghost use Rattle.links.specs.Bundles.{viewed};
-ghost use Rattle.links.specs.Outcomes.{outcome_of};
+ghost use Rattle.links.specs.Bundles.{viewed, Tells};
 ghost use Rattle.links.specs.Sides.{side_of};
 ghost use Rattle.descent.specs.Entries.{entry_told};
 ghost use Rattle.queries.specs.Queries.{BoundTested, bound_command, step_command};
@@ -31,7 +30,7 @@ fn bound_of(kind: u32, k: Key) -> Result<Bound<Key>, Refusal>
 
 // The first slot with the key that a descent from the root meets, or 0.
 pub fn find(tree: Sound, k: Key) -> Answer
-    ensures { outcome_of result (viewed tree.entry.view) ≡ operate (command.find k.0) (viewed tree.entry.view) }
+    ensures { Tells (operate (command.find k.0)) tree.entry.view result }
 {
     let met = descent::find(tree.view, k);
     Ok(Done {
@@ -40,10 +39,10 @@ pub fn find(tree: Sound, k: Key) -> Answer
     })
 }
 
-// For the left side the first slot within a lower bound, for the right side the last one within an upper bound.
+// For the left side the first slot within a lower bound, for the right side the last one within an upper bound. Any
+// number for the kind has an answer, so that it is no `Bound` yet.
 pub fn bound(tree: Sound, side: Side, kind: u32, k: Key) -> Answer
-    ensures { outcome_of result (viewed tree.entry.view)
-        ≡ operate (bound_command (side_of side) kind k.0) (viewed tree.entry.view) }
+    ensures { Tells (operate (bound_command (side_of side) kind k.0)) tree.entry.view result }
 {
     let bound = bound_of(kind, k)?;
     let met = descent::bound(tree.view, side, bound);
@@ -55,8 +54,7 @@ pub fn bound(tree: Sound, side: Side, kind: u32, k: Key) -> Answer
 
 // The slot next to a position on a side, or 0; from 0 the first on the way there.
 pub fn neighbour(tree: Sound, side: Side, position: Slot) -> Answer
-    ensures { outcome_of result (viewed tree.entry.view)
-        ≡ operate (step_command (side_of side) position.0) (viewed tree.entry.view) }
+    ensures { Tells (operate (step_command (side_of side) position.0)) tree.entry.view result }
 {
     refusals::test_position(tree.view.pc, position)?;
     let slot = walks::neighbour(tree.view, side, position);
