@@ -1,5 +1,4 @@
--- From the calls' promises to the exported ones, and that these leave no choice.
-pub mod Telling
+-- Of entries by their numbers and of the part of a line, and that the exported promises leave no choice.
 pub mod Places
 pub mod Parts
 pub mod Only

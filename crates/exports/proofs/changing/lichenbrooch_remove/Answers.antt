@@ -1,7 +1,0 @@
-use Rattle.std.proofs.Common.{rules}
-use Rattle.exports.proofs.Telling.{call_told}
-use Rattle.exports.proofs.changing.lichenbrooch_remove.Goals as goal
-
-pub returns : goal.returns
-returns c =
-    search (rules, call_told)
