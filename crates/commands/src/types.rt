@@ -41,12 +41,12 @@ impl TryFrom<Record> for Command {
             return Err(Refusal::BadRecord);
         }
         let Record {
+            kind,
             position,
             slot,
             key,
             ..
         } = order;
-        let kind = u32::from(order.kind);
         match order.operation {
             1 => Ok(Command::Change(Change::Insert(slot, key))),
             2 => Ok(Command::Change(Change::OrInsert(slot, key))),

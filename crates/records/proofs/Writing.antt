@@ -1,7 +1,10 @@
 -- Writing: the bytes of an answer are those of the model. Assumes nothing.
-use Prim.Native.Nat.{ℕ}
+use Prim.Native.Nat.{ℕ, ◌+◌, ◌≤◌}
 use mathlib.Core.Path.{◌≡◌, refl}
-use lib.ListN.{length}
+use mathlib.Core.List.{List, [], ◌∷◌, append_assoc}
+use native.Mathlib.Numerals.{unary_clauses}
+use lib.ListN.{length, set, length-set}
+use lib.Seq.{sets-eq}
 use Rattle.std.proofs.Common.{Result, Ok, Err}
 use Rattle.model.specs.Answers as model
 use Rattle.model.specs.Batch.{answer_bytes}
@@ -11,7 +14,17 @@ use Rattle.links.specs.declared.types.Refusal.{Refusal}
 use Rattle.links.specs.declared.types.Refusal.TheVariants.{Damaged, BadSlot, AlreadyLinked, NotLinked, OutOfOrder}
 use Rattle.links.specs.declared.types.Refusal.TheVariants.{NullCursor, Stale, BadRecord, BadLength, Short, BadCode}
 use Rattle.links.specs.Outcomes.{told, refusal_code}
-use Rattle.records.specs.Records.{answer_in}
+use Rattle.records.specs.Records.{Lays, answer_in}
+
+-- Six stores side by side lay six values.
+pub six_laid :
+    (at a b c d e f : ℕ) (l : List ℕ) → at + 6 ≤ length l
+    → Lays at 6 (a ∷ b ∷ c ∷ d ∷ e ∷ f ∷ []) l
+    (set (set (set (set (set (set l at a) (at + 1) b) (at + 2) c) (at + 3) d) (at + 4) e) (at + 5) f)
+six_laid at a b c d e f l fits = record {
+  is = simp unary_clauses (simp (unary_clauses, append_assoc) at (sets-eq (a ∷ b ∷ c ∷ d ∷ e ∷ f ∷ []) l at fits));
+  same = simp length-set;
+}
 
 -- Every answer takes as many bytes.
 pub answer_length : (a : model.Answer) → length (answer_bytes a) ≡ answer_size

@@ -15,11 +15,20 @@ record_in r = record {
   key = r.key.0;
 }
 
--- r is the command record that starts at an offset, and its slots are below what their bytes can say.
+-- r is the number of `size` bytes from an offset on, so it is below what they can say.
+pub record ReadsField (at size : ℕ) (bytes : List ℕ) (r : ℕ) : Type 0 where
+  pub is : r ≡ model.field at size bytes
+  pub below : r < 256 ^ size
+
+-- r is the command record that starts at an offset, and each field is below what its bytes can say.
 pub record ReadsRecord (at : ℕ) (bytes : List ℕ) (r : Record) : Type 0 where
   pub is : record_in r ≡ model.record_of (take record_size (drop at bytes))
+  pub mark : r.mark < 256 ^ 2
+  pub operation : r.operation < 256
+  pub kind : r.kind < 256
   pub position : r.position.0 < 256 ^ 2
   pub slot : r.slot.0 < 256 ^ 2
+  pub key : r.key.0 < 256 ^ 8
 
 -- The bytes of an answer whose code has a number.
 abbrev pub answer_in : (code probes slot : ℕ) → List ℕ
