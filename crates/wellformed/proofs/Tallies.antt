@@ -1,12 +1,13 @@
 -- The count of all slots, slot by slot.
-use Prim.Native.Nat.{ℕ, suc, ◌+◌, ◌≤◌}
+use Prim.Native.Nat.{ℕ, suc, ◌+◌, ◌≤◌, ◌<◌}
 use native.Mathlib.Omega.{arith}
+use native.Mathlib.Numerals.{add-one}
 use mathlib.Core.Bool.{Bool, true, false, not, ◌&&◌, ◌||◌}
 use mathlib.Core.List.{List, [], ◌∷◌}
-use mathlib.Core.Logic.{◌⊎◌, inl, inr}
 use mathlib.Core.Path.{◌≡◌, refl}
 use lib.Dec.{eqb}
-use lib.ListN.{length}
+use lib.ListN.{length, get_or, drop, drop_of_length-le}
+use lib.Seq.{drop-cons}
 use Rattle.std.specs.Int.{from_bool}
 use Rattle.model.specs.Branch.{choose, pick}
 use Rattle.model.specs.Check.{tidy_slot, linked_count}
@@ -14,23 +15,16 @@ use Rattle.theory.specs.Quick.{stray_count}
 use Rattle.wellformed.specs.Checks.{SameLengths, Tallied, stray}
 
 -- what has been counted and what is still to come make up the whole
-pub record Tallying (l r p left right pc : List ℕ) (linked strays : ℕ) : Type 0 where
-  pub lefts : length left ≡ length pc
-  pub rights : length right ≡ length pc
-  pub few : linked + length pc ≤ length p
-  pub few_strays : strays + length pc ≤ length p
-  pub all : linked + linked_count pc ≡ linked_count p
-  pub all_strays : strays + stray_count left right pc ≡ stray_count l r p
+pub record Tallying (l r p : List ℕ) (linked strays i : ℕ) : Type 0 where
+  pub within : i ≤ length p
+  pub few : linked ≤ i
+  pub few_strays : strays ≤ i
+  pub all : linked + linked_count (drop i p) ≡ linked_count p
+  pub all_strays : strays + stray_count (drop i l) (drop i r) (drop i p) ≡ stray_count l r p
 
-pub tally_start : {l r p k : List ℕ} → SameLengths l r p k → Tallying l r p l r p 0 0
-tally_start h = record {
-  lefts = h.left;
-  rights = h.right;
-  few = omega arith;
-  few_strays = omega arith;
-  all = omega arith;
-  all_strays = omega arith;
-}
+pub tally_start : (l r p : List ℕ) → Tallying l r p 0 0 0
+tally_start l r p = record
+    { within = omega arith; few = omega arith; few_strays = omega arith; all = omega arith; all_strays = omega arith }
 
 one_linked : (x : ℕ) (p : List ℕ) → linked_count (x ∷ p) ≡ from_bool (not (eqb x 0)) + linked_count p
 unfolding linked_count
@@ -64,42 +58,44 @@ stray_both l r p = go (eqb p 0) (eqb l 0)
     go true false = refl
     go false none = refl
 
-none_linked : (p : List ℕ) → length p ≡ 0 → linked_count p ≡ 0
-unfolding linked_count
-none_linked [] e = refl
-none_linked (x ∷ p) e = absurd (omega arith)
-
-none_stray : (l r p : List ℕ) → length l ≡ 0 → stray_count l r p ≡ 0
-unfolding stray_count
-none_stray [] r p e = refl
-none_stray (x ∷ l) r p e = absurd (omega arith)
-
--- which of two arrays has ended
-pub either : {A B R : Type 0} → A ⊎ B → (A → R) → (B → R) → R
-either (inl x) f g = f x
-either (inr y) f g = g y
-
-module _ {l r p left right pc : List ℕ} {linked strays : ℕ} (h : Tallying l r p left right pc linked strays) where
-  pub tally_step : {x y z one two : ℕ} {bad : Bool} {left' right' pc' : List ℕ} →
-      pc ≡ x ∷ pc' → left ≡ y ∷ left' → right ≡ z ∷ right' → one ≡ from_bool (not (eqb x 0)) →
-      bad ≡ stray y z x → two ≡ from_bool bad →
-      Tallying l r p left' right' pc' (linked + one) (strays + two)
-  tally_step {x} {y} {z} {bad = bad} {left'} {right'} {pc'} e f g one b two =
-      let q : Tallying l r p (y ∷ left') (z ∷ right') (x ∷ pc') linked strays = rw (e, f, g) at h in
+module _ {l r p k : List ℕ} {linked strays i : ℕ} (same : SameLengths l r p k) (h : Tallying l r p linked strays i) where
+  pub tally_step : {one two : ℕ} {bad : Bool} → i < length p → one ≡ from_bool (not (eqb (get_or p i 0) 0)) →
+      bad ≡ stray (get_or l i 0) (get_or r i 0) (get_or p i 0) → two ≡ from_bool bad →
+      Tallying l r p (linked + one) (strays + two) (i + 1)
+  tally_step {bad = bad} more e b f =
+      let pc : drop i p ≡ get_or p i 0 ∷ drop (suc i) p = drop-cons p i 0 more in
+      let left : drop i l ≡ get_or l i 0 ∷ drop (suc i) l = drop-cons l i 0 (omega (arith, same.left)) in
+      let right : drop i r ≡ get_or r i 0 ∷ drop (suc i) r = drop-cons r i 0 (omega (arith, same.right)) in
+      let all = rw pc at h.all in
+      let strays = rw (left, right, pc) at h.all_strays in
+      let here = one_stray (get_or l i 0) (get_or r i 0) (get_or p i 0) in
       record {
-        lefts = omega (arith, q.lefts);
-        rights = omega (arith, q.rights);
-        few = omega (arith, q.few, one, at_most_one (not (eqb x 0)));
-        few_strays = omega (arith, q.few_strays, two, at_most_one bad);
-        all = omega (arith, q.all, one, one_linked x pc');
-        all_strays = omega (arith, q.all_strays, rw b at two, one_stray y z x left' right' pc');
+        within = omega arith;
+        few = omega (arith, h.few, e, at_most_one (not (eqb (get_or p i 0) 0)));
+        few_strays = omega (arith, h.few_strays, f, at_most_one bad);
+        all = rw (add-one i) (omega (arith, e, one_linked (get_or p i 0) (drop (suc i) p)));
+        all_strays =
+            rw (add-one i)
+            (omega (arith, rw b at f, here (drop (suc i) l) (drop (suc i) r) (drop (suc i) p)));
       }
 
+  tally_linked : length p ≤ i → linked ≡ linked_count p
+  unfolding linked_count
+  tally_linked past =
+      let all : linked + linked_count [] ≡ linked_count p = rw (drop_of_length-le p past) at h.all in
+      omega arith
+
+  tally_strays : length p ≤ i → strays ≡ stray_count l r p
+  unfolding stray_count
+  tally_strays past =
+      let left : drop i l ≡ [] = drop_of_length-le l {i = i} (omega (arith, same.left)) in
+      let all : strays + stray_count [] (drop i r) (drop i p) ≡ stray_count l r p = rw left at h.all_strays in
+      omega arith
+
   -- where nothing is to come
-  pub tally_end : {k : List ℕ} → SameLengths l r p k → length pc ≡ 0 →
-      Tallied l r p k (record { linked = linked; strays = strays })
-  tally_end same none = record {
-    linked = omega (arith, h.all, none_linked pc none);
-    strays = omega (arith, h.all_strays, none_stray left right pc (omega (arith, h.lefts, none)));
-    small = omega (arith, h.few, same.small);
+  pub tally_end : length p ≤ i → Tallied l r p k (record { linked = linked; strays = strays })
+  tally_end past = record {
+    linked = tally_linked past;
+    strays = tally_strays past;
+    small = omega (arith, h.few, h.within, same.small);
   }

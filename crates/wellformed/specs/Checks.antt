@@ -44,6 +44,12 @@ pub record NodePre (l r p k : List ℕ) (s : ℕ) : Type 0 where
   pub right : SlotOf r s
   pub key : SlotOf k s
 
+-- what any slot holds
+pub record NodeIn (l r p k : List ℕ) (s : ℕ) (node : Node) : Type 0 where
+  pub left : node.left.0 ≡ at l s
+  pub right : node.right.0 ≡ at r s
+  pub key : node.key.0 ≡ at k s
+
 -- what a slot that passes holds
 pub record Holds (l r p k : List ℕ) (s low high : ℕ) (node : Node) : Type 0 where
   pub left : node.left.0 ≡ at l s

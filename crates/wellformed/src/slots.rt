@@ -3,7 +3,7 @@ ghost use Rattle.std.specs.Prelude.{◌≡◌, ◌≤◌};
 ghost use Rattle.model.specs.Limits.{capacity_limit};
 ghost use Rattle.model.specs.Check.{differ as apart};
 ghost use Rattle.theory.specs.Quick.{is_between};
-ghost use Rattle.wellformed.specs.Checks.{Kinship, NodePre, NodeAt};
+ghost use Rattle.wellformed.specs.Checks.{Kinship, NodePre, NodeIn, NodeAt};
 ghost use Rattle.wellformed.specs.Views.{Seen};
 
 use crate::types::Node;
@@ -44,19 +44,25 @@ pub fn between(low: Key, k: Key, high: Key) -> bool
     (low <= k) & (k <= high)
 }
 
-// A slot's children and key, if the children differ, or are both 0, and the key lies between the two.
+// A slot's children and key, whatever they are.
+pub fn node_in(view: &View, slot: Slot) -> Node
+    requires { Seen NodePre view.now slot.0 }
+    ensures { Seen NodeIn view.now slot.0 result }
+{
+    Node {
+        left: Slot(links::number_at(view.left, slot)),
+        right: Slot(links::number_at(view.right, slot)),
+        key: links::key_of(view.key, slot),
+    }
+}
+
+// The same, if the children differ, or are both 0, and the key lies between the two.
 pub fn node_at(view: &View, slot: Slot, low: Key, high: Key) -> Option<Node>
     requires { Seen NodePre view.now slot.0 }
     ensures { Seen NodeAt view.now slot.0 low.0 high.0 result }
 {
-    let left = Slot(links::number_at(view.left, slot));
-    let right = Slot(links::number_at(view.right, slot));
-    let key = links::key_of(view.key, slot);
-    let apart = differ(left, right);
-    let fits = between(low, key, high);
-    if apart & fits {
-        Some(Node { left, right, key })
-    } else {
-        None
-    }
+    let node = node_in(view, slot);
+    let apart = differ(node.left, node.right);
+    let fits = between(low, node.key, high);
+    if apart & fits { Some(node) } else { None }
 }
