@@ -1,5 +1,5 @@
--- walk and neighbour: the slot found is the next in the order of the side.
-use Prim.Native.Nat.{ℕ, ◌≤◌}
+-- step, walk and neighbour: the slot found is the next in the order of the side.
+use Prim.Native.Nat.{ℕ}
 use mathlib.Core.List.{List, ◌∷◌}
 use mathlib.Core.Path.{◌≡◌, ap, ◌∙◌}
 use mathlib.Core.Logic.{⊎_elim}
@@ -26,26 +26,11 @@ use Rattle.links.specs.declared.types.Side.TheVariants.{Left, Right}
 use Rattle.links.specs.Sides.{side_of}
 use Rattle.links.specs.Reads.{GetPre, Got}
 use Rattle.walks.specs.Ends.{front_at, EndPre, EndPost, FrontPre, FrontPost, ClimbPre, ClimbPost}
-use Rattle.walks.specs.Steps.{Position, WalkPre, Walked, Adjoined}
+use Rattle.walks.specs.Steps.{StepPre, StepPost, Position, WalkPre, Walked, Adjoined}
 use Rattle.walks.proofs.Spines.{end_sided}
 use Rattle.walks.proofs.Rises.{rise_sided}
 
--- ---- a step from a slot
-
--- the slot x stands in a tree, and near is the child array of one side
-pub record StepPre (near far pc : List ℕ) (x : ℕ) : Type 0 where
-  pub side : Side
-  pub root : ℕ
-  pub size : ℕ
-  pub color : Color
-  pub near_tree : Tree
-  pub far_tree : Tree
-  pub way : List Frame
-  pub spot : Spot side near far pc root size side color near_tree x far_tree way
-
-pub record StepPost (near far pc : List ℕ) (x found : ℕ) : Type 0 where
-  pub is : (d : Side) (root : ℕ) → found ≡ step_to d (length near) (sided d near far pc root) x
-  pub top : found ≤ length near
+-- ---- step
 
 -- the near child, as the start of a chain by the far links
 child_end : (d : Side) {near far pc : List ℕ} {root C : ℕ} {c : Color} (a : Tree) {b : Tree} {x : ℕ} {w : List Frame}
@@ -173,29 +158,9 @@ module _ {near far pc : List ℕ} {root p : ℕ} (k : WalkPre near far pc root p
         top = omega (arith, m.top);
       }
 
-  module _ (n : p ≡ 0 → ⊥) where
-    v : StepPre near far pc p
-    v = walk_step n
-
-    pub walk_get : GetPre near p
-    walk_get = step_get v
-
-    pub walk_climb : ClimbPre far pc p
-    walk_climb = step_climb v
-
-    walked_step : {found : ℕ} → StepPost near far pc p found → Walked near far pc root p found
-    unfolding walk_to
-    walked_step m = record { is = λ d. rw (ne_eqb p 0 n) (m.is d root); top = m.top }
-
-    module _ {y : ℕ} (g : Got near p y) where
-      pub walk_end : (y ≡ 0 → ⊥) → EndPre far y
-      walk_end some = step_end v g some
-
-      pub walked_end : {found : ℕ} → (y ≡ 0 → ⊥) → EndPost far y found → Walked near far pc root p found
-      walked_end some m = walked_step (stepped_end v g some m)
-
-      pub walked_climb : {found : ℕ} → y ≡ 0 → ClimbPost far pc p found → Walked near far pc root p found
-      walked_climb none m = walked_step (stepped_climb v g none m)
+  pub walked_step : {found : ℕ} → (p ≡ 0 → ⊥) → StepPost near far pc p found → Walked near far pc root p found
+  unfolding walk_to
+  walked_step n m = record { is = λ d. rw (ne_eqb p 0 n) (m.is d root); top = m.top }
 
 -- ---- neighbour
 

@@ -1,16 +1,34 @@
--- walk and neighbour: what each requires, and what it finds.
+-- step, walk and neighbour: what each requires, and what it finds.
 use Rattle.std.specs.Prelude.{ℕ, ◌≤◌, ◌⊎◌, ◌≡◌, length}
 use mathlib.Core.List.{List, Memᴰ}
-use Rattle.model.specs.Tree.{Side, lft, rgt, Tree, slots}
+use Rattle.model.specs.Tree.{Side, lft, rgt, Color, Tree, slots, Frame}
 use Rattle.model.specs.Order.{next_in, prev_in}
-use Rattle.theory.specs.Programs.{walk_to}
+use Rattle.theory.specs.Programs.{step_to, walk_to}
 use Rattle.theory.specs.Sided.{sided}
-use Rattle.theory.specs.Places.{Drawn}
+use Rattle.theory.specs.Places.{Drawn, Spot}
 use Rattle.links.specs.declared.types.View.{View}
 
 -- a demand on the links of a view, or a promise about them
 abbrev pub Linked : {A : Type 1} → (List ℕ → List ℕ → List ℕ → ℕ → A) → View → A
 Linked f v = f v.left.now v.right.now v.pc.now v.root.0
+
+-- ---- step: the slot x stands in a tree, and near is the child array of one side
+
+pub record StepPre (near far pc : List ℕ) (x : ℕ) : Type 0 where
+  pub side : Side
+  pub root : ℕ
+  pub size : ℕ
+  pub color : Color
+  pub near_tree : Tree
+  pub far_tree : Tree
+  pub way : List Frame
+  pub spot : Spot side near far pc root size side color near_tree x far_tree way
+
+pub record StepPost (near far pc : List ℕ) (x found : ℕ) : Type 0 where
+  pub is : (d : Side) (root : ℕ) → found ≡ step_to d (length near) (sided d near far pc root) x
+  pub top : found ≤ length near
+
+-- ---- walk and neighbour
 
 -- the arrays draw a tree, near is the child array of the side d, and p is a slot of the tree or 0
 pub record Position (d : Side) (near far pc : List ℕ) (root p : ℕ) : Type 0 where

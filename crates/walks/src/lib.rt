@@ -5,7 +5,7 @@
 ghost use Rattle.model.specs.Tree.{lft};
 ghost use Rattle.walks.specs.Ends.{EndPre, EndPost, FrontPre, FrontPost, ClimbPre, ClimbPost};
 ghost use Rattle.links.specs.Sides.{side_of};
-ghost use Rattle.walks.specs.Steps.{Linked, Position, WalkPre, Walked, Adjoined};
+ghost use Rattle.walks.specs.Steps.{Linked, StepPre, StepPost, Position, WalkPre, Walked, Adjoined};
 
 use links::types::{Side, Slot, View};
 
@@ -47,24 +47,35 @@ pub fn climb(links: &[u32], pc: &[u32], slot: Slot) -> Slot
     Slot(0)
 }
 
+// The neighbour of a slot on the near side, or 0.
+#[inline(always)]
+pub fn step(near: &[u32], far: &[u32], pc: &[u32], slot: Slot) -> Slot
+    requires { StepPre near.now far.now pc.now slot.0 }
+    ensures { StepPost near.now far.now pc.now slot.0 result.0 }
+{
+    let child = links::get(near, slot);
+    if child.0 != 0 {
+        end_of(far, child)
+    } else {
+        climb(far, pc, slot)
+    }
+}
+
 // The slot that comes next to a position on the left, or 0; from 0 the first on the way there. In the mirrored view
 // left is right.
-fn walk(view: View, position: Slot) -> Slot
+#[inline(always)]
+pub fn walk(view: View, position: Slot) -> Slot
     requires { Linked WalkPre view position.0 }
     ensures { Linked Walked view.entry position.0 result.0 }
 {
     if position.0 == 0 {
         return front(view.right, view.root);
     }
-    let child = links::get(view.left, position);
-    if child.0 != 0 {
-        end_of(view.right, child)
-    } else {
-        climb(view.right, view.pc, position)
-    }
+    step(view.left, view.right, view.pc, position)
 }
 
 // The slot after a position, on the right, or the one before it, on the left; or 0.
+#[inline(always)]
 pub fn neighbour(view: View, side: Side, position: Slot) -> Slot
     requires { Linked (Position lft) view position.0 }
     ensures { Linked (Adjoined (side_of side)) view.entry position.0 result.0 }
