@@ -16,6 +16,7 @@ use descent::types::Entry;
 use links::types::{Answer, Done, Key, Lent, Links, Refusal, Side, Slot, View};
 
 // A slot goes after every key that is at most its own.
+#[inline(always)]
 pub fn insert(lent: Lent, slot: Slot, k: Key) -> Answer
     requires { WellFormed (lent_in lent) }
     ensures { Does (operate (command.insert slot.0 k.0)) lent.entry result lent.exit }
@@ -39,6 +40,7 @@ pub fn insert(lent: Lent, slot: Slot, k: Key) -> Answer
 }
 
 // The slot that has the key, or else the new one, hung where the descent for the key ends.
+#[inline(always)]
 pub fn or_insert(lent: Lent, slot: Slot, k: Key) -> Answer
     requires { WellFormed (lent_in lent) }
     ensures { Does (operate (command.or_insert slot.0 k.0)) lent.entry result lent.exit }
@@ -93,6 +95,7 @@ pub fn or_insert_at(lent: Lent, entry: Entry, slot: Slot, k: Key) -> Answer
 }
 
 // A node is taken out of the tree, and its key stays. The answer is the slot after it.
+#[inline(always)]
 pub fn remove(tree: Links, key: &[u64], position: Slot) -> Answer
     requires { WellFormed (keyed_in tree key.now) }
     ensures { Relinks (operate (command.remove position.0)) tree.entry key.now result tree.exit }
@@ -115,6 +118,7 @@ pub fn remove(tree: Links, key: &[u64], position: Slot) -> Answer
 }
 
 // A slot goes right beside a position: after it, or before it; from 0 to the front, or to the back.
+#[inline(always)]
 pub fn insert_beside(lent: Lent, side: Side, position: Slot, slot: Slot, k: Key) -> Answer
     requires { WellFormed (lent_in lent) }
     ensures { Does (operate (insert_next (side_of side) position.0 slot.0 k.0)) lent.entry result lent.exit }
@@ -134,6 +138,7 @@ pub fn insert_beside(lent: Lent, side: Side, position: Slot, slot: Slot, k: Key)
 }
 
 // A new slot takes the place of a position's node, with its links and colour.
+#[inline(always)]
 pub fn replace_with(lent: Lent, position: Slot, slot: Slot, k: Key) -> Answer
     requires { WellFormed (lent_in lent) }
     ensures { Does (operate (command.replace_with position.0 slot.0 k.0)) lent.entry result lent.exit }

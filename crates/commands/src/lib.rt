@@ -15,6 +15,7 @@ use records::types::Record;
 use types::{Change, Command, Query};
 
 // What a query answers.
+#[inline(always)]
 fn look(tree: Sound, query: Query) -> Answer
     ensures { Tells (operate (asked query)) tree.entry.view result }
 {
@@ -26,6 +27,7 @@ fn look(tree: Sound, query: Query) -> Answer
 }
 
 // What a change does.
+#[inline(always)]
 fn apply(lent: Lent, change: Change) -> Answer
     requires { WellFormed (lent_in lent) }
     ensures { Does (operate (changing change)) lent.entry result lent.exit }

@@ -121,6 +121,7 @@ fn turned(path: Path, side: Side) -> Met
 }
 
 // For the left side the first slot within a lower bound, for the right side the last one within an upper bound.
+#[inline(always)]
 pub fn bound(view: View, side: Side, bound: Bound<Key>) -> Met
     requires { Seen Searchable view }
     ensures { Seen FoundBound view.entry (side_of side) (kind_of bound) (key_in bound) result }
@@ -128,12 +129,10 @@ pub fn bound(view: View, side: Side, bound: Bound<Key>) -> Met
     match (side, bound) {
         (Side::Left, Bound::Unbounded) => edge(view.left, view.root),
         (Side::Right, Bound::Unbounded) => edge(view.right, view.root),
-        (Side::Left, Bound::Included(k)) | (Side::Right, Bound::Excluded(k)) => {
-            turned(path(view, |held| k <= held), side)
-        }
-        (Side::Left, Bound::Excluded(k)) | (Side::Right, Bound::Included(k)) => {
-            turned(path(view, |held| k < held), side)
-        }
+        (Side::Left, Bound::Included(k)) => turned(path(view, |held| k <= held), Side::Left),
+        (Side::Left, Bound::Excluded(k)) => turned(path(view, |held| k < held), Side::Left),
+        (Side::Right, Bound::Included(k)) => turned(path(view, |held| k < held), Side::Right),
+        (Side::Right, Bound::Excluded(k)) => turned(path(view, |held| k <= held), Side::Right),
     }
 }
 

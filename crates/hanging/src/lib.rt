@@ -118,6 +118,7 @@ pub fn finish(tree: Links, slot: Slot)
 }
 
 // The climb from a red slot that may hang under a red parent.
+#[inline(always)]
 pub fn post_insert(tree: Links, slot: Slot)
     requires { Over PostInsertPre tree slot.0 }
     ensures { Made (post_insert (slots_in tree.entry) (links_in tree.entry) slot.0) tree.entry tree.exit }
@@ -166,6 +167,7 @@ pub fn insert_root(tree: Links, slot: Slot)
 }
 
 // A slot at the empty place on the named side of a parent; without a parent, as the first of an empty tree.
+#[inline(always)]
 pub fn insert_at(tree: Links, parent: Slot, side: Side, slot: Slot)
     requires { Over Vacant tree parent.0 (side_of side) slot.0 }
     ensures { InsertedIn tree.entry parent.0 (side_of side) slot.0 tree.exit }

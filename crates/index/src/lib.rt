@@ -41,6 +41,7 @@ pub fn find(view: View, k: Key) -> Answer
 
 // Both bounds; kind 0 is Unbounded, 1 Included, 2 Excluded. It stays a number, since any other has to be answered by
 // BadRecord behind Damaged.
+#[inline(always)]
 fn bound(view: View, side: Side, kind: u32, k: Key) -> Answer
     ensures { Tells (perform (bound_command (side_of side) kind k.0)) view.entry result }
 {
@@ -63,6 +64,7 @@ pub fn upper_bound(view: View, kind: u32, k: Key) -> Answer
 }
 
 // Both moves.
+#[inline(always)]
 fn step(view: View, side: Side, position: Slot) -> Answer
     ensures { Tells (perform (step_command (side_of side) position.0)) view.entry result }
 {
@@ -143,6 +145,7 @@ pub fn remove(tree: Links, key: &[u64], position: Slot) -> Answer
 }
 
 // Both insertions beside a position.
+#[inline(always)]
 fn insert_beside(lent: Lent, side: Side, position: Slot, slot: Slot, k: Key) -> Answer
     ensures { Does (perform (insert_next (side_of side) position.0 slot.0 k.0)) lent.entry result lent.exit }
 {

@@ -20,6 +20,7 @@ use links::types::{Answer, Done, Key, Lent, Links, Refusal, Side, Slot, View};
 use types::Gap;
 
 // A slot hangs at an empty place, with its key.
+#[inline(always)]
 pub fn hang_at(lent: Lent, at: InsertCursor, slot: Slot, k: Key)
     requires { HangPre (lent_in lent) at slot.0 }
     ensures { HungAt (lent_in lent.entry) at slot.0 k.0 (lent_out lent.exit) }
@@ -30,6 +31,7 @@ pub fn hang_at(lent: Lent, at: InsertCursor, slot: Slot, k: Key)
 }
 
 // The slot of an occupied entry, or the new one, hung at a vacant place.
+#[inline(always)]
 pub fn fill(lent: Lent, entry: Entry, probes: u32, slot: Slot, k: Key) -> Done
     requires { FillPre (lent_in lent) (entry_told entry) probes slot.0 k.0 }
     ensures { outcome_of (Ok result) (lent_out lent.exit)
@@ -74,6 +76,7 @@ fn beside(links: &[u32], position: Slot, neighbour: Slot, side: Side) -> InsertC
 }
 
 // The gap between a position and the slot next to it on a side.
+#[inline(always)]
 pub fn gap(view: View, side: Side, position: Slot) -> Gap
     requires { Stands (viewed view) position.0 }
     ensures { GapAt (side_of side) (viewed view.entry) position.0 result }
@@ -94,6 +97,7 @@ pub fn gap(view: View, side: Side, position: Slot) -> Gap
 }
 
 // A slot goes into a gap, if its key may stand there.
+#[inline(always)]
 pub fn insert_in(lent: Lent, gap: Gap, slot: Slot, k: Key) -> Answer
     requires { InsertPre (lent_in lent) gap slot.0 }
     ensures { InsertedIn (lent_in lent.entry) gap slot.0 k.0 (outcome_of result (lent_out lent.exit)) }
@@ -107,6 +111,7 @@ pub fn insert_in(lent: Lent, gap: Gap, slot: Slot, k: Key) -> Answer
 }
 
 // Whether a key may stand between the slots before and after a position.
+#[inline(always)]
 pub fn may_stand(view: View, position: Slot, k: Key) -> bool
     requires { Stands (viewed view) position.0 }
     ensures { Fits (viewed view.entry) position.0 k.0 result }

@@ -41,6 +41,7 @@ pub fn find(tree: Sound, k: Key) -> Answer
 
 // For the left side the first slot within a lower bound, for the right side the last one within an upper bound. Any
 // number for the kind has an answer, so that it is no `Bound` yet.
+#[inline(always)]
 pub fn bound(tree: Sound, side: Side, kind: u32, k: Key) -> Answer
     ensures { Tells (operate (bound_command (side_of side) kind k.0)) tree.entry.view result }
 {

@@ -10,6 +10,7 @@ ghost use Rattle.removal.specs.Removals.{DetachPre, FinishPre, number, OnePre, T
 use links::types::{Color, Links, Nodes, Slot};
 
 // The only child of a slot, or 0, takes its place, and the slot is released.
+#[inline(always)]
 pub fn detach(tree: Links, slot: Slot, child: Slot)
     requires { Over DetachPre tree slot.0 child.0 }
     ensures { Made (detach (links_in tree.entry) slot.0 child.0) tree.entry tree.exit }
@@ -22,6 +23,7 @@ pub fn detach(tree: Links, slot: Slot, child: Slot)
 }
 
 // Makes up for a lost node of this colour, in whose place its child, if it had one, now stands beside its sibling.
+#[inline(always)]
 pub fn finish_remove(tree: Links, color: Color, child: Option<Slot>, sibling: Option<Slot>)
     requires { Over FinishPre tree (shade color) child sibling }
     ensures { Made
@@ -43,6 +45,7 @@ pub fn finish_remove(tree: Links, color: Color, child: Option<Slot>, sibling: Op
 }
 
 // Takes out a slot with one child at the most, which takes its place: a number read from the links, where 0 is none.
+#[inline(always)]
 pub fn remove_one(tree: Links, slot: Slot, child: Slot)
     requires { Over OnePre tree slot.0 child.0 }
     ensures { Made (remove_one (slots_in tree.entry) (links_in tree.entry) slot.0 child.0) tree.entry tree.exit }
@@ -55,6 +58,7 @@ pub fn remove_one(tree: Links, slot: Slot, child: Slot)
 }
 
 // Takes out a slot with two children: `next`, the slot after it, moves into its place.
+#[inline(always)]
 pub fn remove_two(tree: Links, slot: Slot, next: Slot)
     requires { Over TwoPre tree slot.0 next.0 }
     ensures { Made (remove_two (slots_in tree.entry) (links_in tree.entry) slot.0 next.0) tree.entry tree.exit }
@@ -69,6 +73,7 @@ pub fn remove_two(tree: Links, slot: Slot, next: Slot)
 }
 
 // Takes out a slot, by the children that it has.
+#[inline(always)]
 pub fn remove(tree: Links, slot: Slot)
     requires { Over Removable tree slot.0 }
     ensures { Made (remove_at (slots_in tree.entry) (links_in tree.entry) slot.0) tree.entry tree.exit }
