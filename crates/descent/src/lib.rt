@@ -120,7 +120,8 @@ fn turned(path: Path, side: Side) -> Met
     }
 }
 
-// For the left side the first slot within a lower bound, for the right side the last one within an upper bound.
+// For the left side the first slot within a lower bound, for the right side the last one within an upper bound. An arm
+// for each, so that a path keeps the one turn that is asked for.
 #[inline(always)]
 pub fn bound(view: View, side: Side, bound: Bound<Key>) -> Met
     requires { Seen Searchable view }

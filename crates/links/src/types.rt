@@ -71,8 +71,8 @@ impl Side {
 // The links that a caller lends, to be changed: the near child numbers and the far ones, each slot's parent and colour
 // in one number, and the root. Near is left, or right where a function works on the mirrored tree, which is
 // `Links(far, near, ..)`. Each has a lifetime of its own, so that one call after another can borrow all of them; and
-// they are not named, so that they are taken apart and put together in a line. What takes a bundle for each record or
-// change is marked `inline(always)`: in a call that stays one it would be stored and read back.
+// they are not named, so that they are taken apart and put together in a line. In a call that stays one a bundle is
+// stored and read back; `inline(always)` keeps that from the calls that come once a record (docs/DECISIONS.md, 45).
 #[derive(Drop)]
 pub struct Links<'n, 'f, 'p, 't>(
     pub &'n mut [u32],

@@ -62,7 +62,7 @@ pub fn record_at(bytes: &[u8], at: usize) -> Record
 }
 
 // Writes the bytes of an answer from a place on: its mark 41 4E, the code and the probes, the slot. Stored one by one:
-// copied from an array on the stack they were read back before they had arrived there, which took a batch longer.
+// an array that is copied here would be read back from the stack before it has arrived there.
 pub fn put_bytes(bytes: &mut [u8], at: usize, code: u8, probes: u32, slot: Slot)
     requires { at + answer_size ≤ length bytes.old }
     ensures { Lays at answer_size (answer_in code probes slot.0) bytes.old bytes.new }

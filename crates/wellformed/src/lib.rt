@@ -182,6 +182,7 @@ fn tree_check(view: &View) -> u32
 }
 
 // W1 to W6.
+#[inline(always)]
 pub fn check(view: View) -> bool
     ensures { result ≡ accepts (viewed view.entry) }
 {
@@ -196,6 +197,7 @@ pub fn check(view: View) -> bool
 }
 
 // All that is lent, where it is well formed; else Damaged.
+#[inline(always)]
 pub fn checked(view: View) -> Result<Sound, Refusal>
     ensures { Checked view.entry result }
 {
