@@ -127,13 +127,13 @@ pub fn bound(view: View, side: Side, bound: Bound<Key>) -> Met
     requires { Seen Searchable view }
     ensures { Seen FoundBound view.entry (side_of side) (kind_of bound) (key_in bound) result }
 {
-    match (side, bound) {
-        (Side::Left, Bound::Unbounded) => edge(view.left, view.root),
-        (Side::Right, Bound::Unbounded) => edge(view.right, view.root),
-        (Side::Left, Bound::Included(k)) => turned(path(view, |held| k <= held), Side::Left),
-        (Side::Left, Bound::Excluded(k)) => turned(path(view, |held| k < held), Side::Left),
-        (Side::Right, Bound::Included(k)) => turned(path(view, |held| k < held), Side::Right),
-        (Side::Right, Bound::Excluded(k)) => turned(path(view, |held| k <= held), Side::Right),
+    match (bound, side) {
+        (Bound::Unbounded, Side::Left) => edge(view.left, view.root),
+        (Bound::Unbounded, Side::Right) => edge(view.right, view.root),
+        (Bound::Included(k), Side::Left) => turned(path(view, |held| k <= held), Side::Left),
+        (Bound::Included(k), Side::Right) => turned(path(view, |held| k < held), Side::Right),
+        (Bound::Excluded(k), Side::Left) => turned(path(view, |held| k < held), Side::Left),
+        (Bound::Excluded(k), Side::Right) => turned(path(view, |held| k <= held), Side::Right),
     }
 }
 

@@ -4,35 +4,35 @@ use Rattle.descent.proofs.Bounding.{slope_right, bound_first, bound_last, lower_
 use Rattle.descent.proofs.Bounding.{upper_included, upper_excluded}
 use Rattle.descent.proofs.bound.Goals as goal
 
-pub edge-requires-in-Right-Unbounded : goal.edge-requires-in-Right-Unbounded
-edge-requires-in-Right-Unbounded c = search (rules, slope_right)
+pub edge-requires-in-Unbounded-Right : goal.edge-requires-in-Unbounded-Right
+edge-requires-in-Unbounded-Right c = search (rules, slope_right)
 
-pub returns-in-Left-Unbounded : goal.returns-in-Left-Unbounded
-returns-in-Left-Unbounded c = search (rules, bound_first)
+pub returns-in-Unbounded-Left : goal.returns-in-Unbounded-Left
+returns-in-Unbounded-Left c = search (rules, bound_first)
 
-pub returns-in-Right-Unbounded : goal.returns-in-Right-Unbounded
-returns-in-Right-Unbounded c = search (rules, bound_last)
+pub returns-in-Unbounded-Right : goal.returns-in-Unbounded-Right
+returns-in-Unbounded-Right c = search (rules, bound_last)
 
-pub returns-in-Left-Included : goal.returns-in-Left-Included
-returns-in-Left-Included c =
-    let w = c.in-Left-Included in
-    lower_included _ _ w.k (rw w.is-0 c.turned.ensures) w.is-0 w.is-1
+pub returns-in-Included-Left : goal.returns-in-Included-Left
+returns-in-Included-Left c =
+    let w = c.in-Included-Left in
+    lower_included _ _ w.k (rw w.is-1 c.turned.ensures) w.is-1 w.is-0
     (c.path.ensures.is (λ held. leb w.k.0 held) (λ held told e. search rules))
 
-pub returns-in-Left-Excluded : goal.returns-in-Left-Excluded
-returns-in-Left-Excluded c =
-    let w = c.in-Left-Excluded in
-    lower_excluded _ _ w.k (rw w.is-0 c.turned-in-Left-Excluded.ensures) w.is-0 w.is-1
-    (c.path-in-Left-Excluded.ensures.is (λ held. ltb w.k.0 held) (λ held told e. search rules))
+pub returns-in-Excluded-Left : goal.returns-in-Excluded-Left
+returns-in-Excluded-Left c =
+    let w = c.in-Excluded-Left in
+    lower_excluded _ _ w.k (rw w.is-1 c.turned-in-Excluded-Left.ensures) w.is-1 w.is-0
+    (c.path-in-Excluded-Left.ensures.is (λ held. ltb w.k.0 held) (λ held told e. search rules))
 
-pub returns-in-Right-Included : goal.returns-in-Right-Included
-returns-in-Right-Included c =
-    let w = c.in-Right-Included in
-    upper_included _ _ w.k (rw w.is-0 c.turned-in-Right-Included.ensures) w.is-0 w.is-1
-    (c.path-in-Right-Included.ensures.is (λ held. ltb w.k.0 held) (λ held told e. search rules))
+pub returns-in-Included-Right : goal.returns-in-Included-Right
+returns-in-Included-Right c =
+    let w = c.in-Included-Right in
+    upper_included _ _ w.k (rw w.is-1 c.turned-in-Included-Right.ensures) w.is-1 w.is-0
+    (c.path-in-Included-Right.ensures.is (λ held. ltb w.k.0 held) (λ held told e. search rules))
 
-pub returns-in-Right-Excluded : goal.returns-in-Right-Excluded
-returns-in-Right-Excluded c =
-    let w = c.in-Right-Excluded in
-    upper_excluded _ _ w.k (rw w.is-0 c.turned-in-Right-Excluded.ensures) w.is-0 w.is-1
-    (c.path-in-Right-Excluded.ensures.is (λ held. leb w.k.0 held) (λ held told e. search rules))
+pub returns-in-Excluded-Right : goal.returns-in-Excluded-Right
+returns-in-Excluded-Right c =
+    let w = c.in-Excluded-Right in
+    upper_excluded _ _ w.k (rw w.is-1 c.turned-in-Excluded-Right.ensures) w.is-1 w.is-0
+    (c.path-in-Excluded-Right.ensures.is (λ held. leb w.k.0 held) (λ held told e. search rules))
